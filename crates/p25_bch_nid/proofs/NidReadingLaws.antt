@@ -7,7 +7,7 @@ use Rattle.p25_code.specs.Readings.{IsReadAs}
 use Rattle.p25_code.proofs.ReadingLaws.{read_as_sent}
 use Rattle.p25_bch_nid.specs.{Bch63.{IsBch63}, Bch63Laws.{bch63_is_code}, Bch63Readings.{bch63_reads_as}, NidReading.{identifier_of_word, nid_reading_of, IsNidReading}}
 
--- the reading of a word's bits is that of the identifier in it
+-- the decoding of the bits of a codeword is the identifier in it
 as_nid : (bits : List Bool) (answer : Option (List Bool)) → IsReadAs beq IsBch63 11 (take 63 bits) answer → IsNidReading bits (option_map identifier_of_word answer)
 unfolding IsReadAs IsNidReading
 as_nid bits None is = is
@@ -28,7 +28,7 @@ pub nid_reading_of-first : (a b : List Bool) → take 63 a ≡ take 63 b → nid
 unfolding nid_reading_of
 nid_reading_of-first a b same = simp same
 
--- 63 received bits have one reading
+-- 63 received bits have one decoding
 pub IsNidReading-unique : (bits : List Bool) (a : Option (ℕ × ℕ)) → 63 ≤ length bits → IsNidReading bits a → a ≡ nid_reading_of bits
 unfolding IsNidReading
 IsNidReading-unique bits None long is = from_answer (nid_reading_of bits) (IsNidReading-nid_reading_of bits)

@@ -34,7 +34,7 @@ xor_same_high a b k same =
     let none : bit_xor a b / 2 ^ k ≡ 0 = simp (xor_shr, same, xor_self) in
     omega (arith, mod_below (bit_xor a b) _ (pow_pos k), ap (λ q. q * 2 ^ k) none)
 
--- an identifier is sent as one number alone
+-- an identifier is transmitted as one number alone
 pub IsSent-unique : (nac duid a b : ℕ) → IsSent nac duid a → IsSent nac duid b → a ≡ b
 IsSent-unique nac duid a b x y =
     omega (

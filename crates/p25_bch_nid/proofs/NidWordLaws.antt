@@ -21,7 +21,7 @@ take-nid_word nac duid = take_at _ _ 63 (encoded-nid nac duid).word_of_set.long
 pub IsEncoding-nid_word : (nac duid : ℕ) → IsEncoding IsBch63 16 (bits_of 12 nac ++ bits_of 4 duid) (take 63 (nid_word nac duid))
 IsEncoding-nid_word nac duid = simp take-nid_word (encoded-nid nac duid)
 
--- then comes P
+-- P follows
 pub drop-nid_word : (nac duid : ℕ) → drop 63 (nid_word nac duid) ≡ eqb (parity_of duid) 1 ∷ []
 unfolding nid_word
 drop-nid_word nac duid = drop_at _ _ 63 (encoded-nid nac duid).word_of_set.long
@@ -50,7 +50,7 @@ nid_reading_of-nid_word nac duid low small =
       identifier_of_word-encoding nac duid word low small encoding,
     )
 
--- and a word is the one that is sent for the identifier in it
+-- and a codeword is the one that is transmitted for the identifier in it
 pub identifier_of_word-sent : (word : List Bool) → IsBch63 word → take 63 (nid_word (field_of (take 12 word)) (field_of (part 12 4 word))) ≡ word
 identifier_of_word-sent word is =
     let nac = field_of (take 12 word) in

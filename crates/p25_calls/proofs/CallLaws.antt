@@ -6,7 +6,7 @@ use Rattle.p25_calls.specs.{declared.seen.UnitSeen.{UnitSeen}, Seen.{is_link_uni
 use Rattle.p25_calls.specs.Taking.{extended, if_linked}
 use Rattle.p25_calls.proofs.RunsLaws.{last_of-append}
 
--- a run with one unit more
+-- a run with one data unit more
 abbrev pub grown : Run → UnitSeen → Run
 grown run unit = run_from run.first (run.others ++ unit ∷ [])
 
@@ -25,7 +25,7 @@ first_had-append : {X : Type 0} (had : UnitSeen → Option X) (units : List Unit
 first_had-append had [] last = option_or-none (had last)
 first_had-append had (unit ∷ units) last = ap (option_or (had unit)) (first_had-append had units last) ∙ option_or-assoc (had unit) (first_had had units) (had last)
 
--- a run with one unit more, as a call
+-- a run with one data unit more, as a call
 pub call_of-grown : (run : Run) (unit : UnitSeen) → call_of (grown run unit) ≡ extended (call_of run) unit
 unfolding call_of
 call_of-grown run unit =
@@ -57,7 +57,7 @@ chosen-run : (run : Run) (runs : List Run) (b : Bool) → map call_of (cond (tru
 chosen-run run runs true = refl
 chosen-run run runs false = refl
 
--- the calls of a run and others, if the run has voice units alone
+-- the calls of a run and others, if the run has voice data units alone
 pub calls_among-voice : (run : Run) (runs : List Run) → list_all is_voice (units_in run) ≡ true → calls_among (run ∷ runs) ≡ option_to_list (if_linked (call_of run)) ++ calls_among runs
 unfolding call_of
 calls_among-voice run runs voice =

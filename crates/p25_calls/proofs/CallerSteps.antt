@@ -59,7 +59,7 @@ pending-later reached taken end most None held later few = tt
 pending-later reached taken end most (Some call) held later few =
     record { before = omega (arith, held.before); links = omega (arith, held.links); broken = omega (arith, held.broken) }
 
--- before a unit
+-- before a data unit
 pub pending-before : (reached taken most place : ℕ) (pending : Option Call) (unit : Option UnitSeen) → IfSome pending (IsPending reached taken) → reached ≤ place → taken ≤ most
     → IfSome unit (λ (unit : UnitSeen). unit.place ≡ place) → IfSome unit (λ (unit : UnitSeen). IfSome pending (IsPending unit.place most))
 pending-before reached taken most place pending None held before few is = tt

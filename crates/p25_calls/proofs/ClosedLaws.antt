@@ -17,7 +17,7 @@ closed-end : (run : Run) → is_terminator (last_unit run) ≡ true → closed_r
 unfolding closed_runs
 closed-end run ends = rw ends
 
--- the last run, with no unit after it or one that begins another
+-- the last run, with no data unit after it or one that begins another
 open-stay : (run : Run) (all : List Run) → is_terminator (last_unit run) ≡ false → Stay (run ∷ []) all
 unfolding closed_runs
 open-stay run all going = record { rest = all; is = rw going }
@@ -30,7 +30,7 @@ one-stay unit more true ends = record {
   is = rw (closed-end (run_from unit []) ends) (runs_of-run (run_from unit []) more tt (cut-terminator (last_unit (run_from unit [])) more ends));
 }
 
--- a unit that joins the first run
+-- a data unit that joins the first run
 longer-last : (unit : UnitSeen) (run : Run) → last_unit (run_from unit (units_in run)) ≡ last_unit run
 unfolding last_of
 longer-last unit run = refl
@@ -54,7 +54,7 @@ longer-stay unit run first (next ∷ others) runs rest before =
     let parts = cons-parts first run runs (closed_runs (next ∷ others) ++ rest) before in
     record { rest = rest; is = rw (parts.0, parts.1) }
 
--- a unit before the first run
+-- a data unit before the first run
 behind-break : (unit : UnitSeen) (run : Run) (others rest all : List Run) → all ≡ closed_runs (run ∷ others) ++ rest → Stay (run_from unit [] ∷ run ∷ others) (run_from unit [] ∷ all)
 unfolding closed_runs
 behind-break unit run others rest all before = record { rest = rest; is = rw before }

@@ -5,7 +5,7 @@ use Rattle.p25_calls.specs.{declared.seen.UnitSeen.{UnitSeen}, Seen.{is_break}, 
 use Rattle.p25_calls.specs.CallLaws.{RunsJoin, NoBreakInside, BreakBetween}
 use Rattle.p25_calls.proofs.RunsLaws.{IsUnbroken}
 
--- ---- joined they are the units
+-- ---- joined they are the data units
 
 with_unit-join : (unit : UnitSeen) (runs : List Run) → flat_map units_in (with_unit unit runs) ≡ unit ∷ flat_map units_in runs
 unfolding with_unit
@@ -46,7 +46,7 @@ unfolding AllUnbroken
 unbroken-run [] run after all = all.0
 unbroken-run (first ∷ before) run after all = unbroken-run before run after all.1
 
--- a list of units, which may be empty, is unbroken
+-- a list of data units, which may be empty, is unbroken
 abbrev AreUnbroken : List UnitSeen → Type 0
 AreUnbroken [] = Unit {0}
 AreUnbroken (unit ∷ units) = IsUnbroken unit units

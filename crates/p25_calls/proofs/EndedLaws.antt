@@ -9,7 +9,7 @@ use Rattle.p25_calls.proofs.{RunsLaws.{IsCutBefore, IsUnbroken, runs_of-run}, Ca
 
 -- ---- types of data units
 
--- a terminator is a voice unit, and no link unit
+-- a terminator is a voice data unit, and no link data unit
 pub record IsEndOnly (unit : UnitSeen) : Type 0 where
   pub voice : is_voice unit ≡ true
   pub unlinked : is_link_unit unit ≡ false
@@ -34,7 +34,7 @@ pub record Stepped (before : Option Run) (unit : UnitSeen) (answer pending : Opt
   pub calls : (ended : Bool) (rest : List UnitSeen)
       → calls_among (runs_by ended (pending_units before ++ unit ∷ rest)) ≡ option_to_list answer ++ calls_among (runs_by ended (pending_units behind ++ rest))
 
--- a voice unit that is no terminator leaves the run open
+-- a voice data unit that is no terminator leaves the run open
 stepped-open : (pending : Option Call) (before : Option Run) (unit : UnitSeen) → LastRun pending before unit → is_voice unit ≡ true → is_terminator unit ≡ false
     → Stepped before unit (broken_off pending unit) (Some (run_with pending unit))
 unfolding pending_units

@@ -8,7 +8,7 @@ use Rattle.p25_calls.specs.{Runs.{Run, closed_runs, last_of, last_unit, run_from
 use Rattle.p25_calls.specs.Taking.{broken_off, call_of_one, extended, goes_on, if_linked, run_with}
 use Rattle.p25_calls.proofs.{RunsLaws.{IsUnbroken, last_of-append, runs_of-begins, runs_of-run, unbroken-append}, CallLaws.{call_of-grown, calls_among-voice, grown}}
 
--- ---- whether a unit joins
+-- ---- whether a data unit joins
 
 joined-bools : (voice same header near : Bool) → (not true || not voice || not same || false || header || not near) ≡ not (voice && same && not header && near)
 joined-bools true true false true = refl
@@ -36,9 +36,9 @@ break-by reached call run pends unit =
     rw (pends.last_voice, pends.going, pends.nac, pends.end, far-not_near unit.place (call.place + call.bits + 3456))
     (joined-bools (is_voice unit) (nat_eq call.nac unit.nac) (is_header unit) (nat_le unit.place (call.place + call.bits + 3456)))
 
--- ---- the run that a unit is the last of
+-- ---- the run whose last data unit is a given one
 
--- the run that may be open, and its units
+-- the run that may be open, and its data units
 pub data Holds (reached : ℕ) : Option Call → Option Run → Type 0 where
   none : Holds reached None None
   some : (call : Call) (run : Run) → Pends reached call run → Holds reached (Some call) (Some run)
@@ -61,7 +61,7 @@ pub record LastRun (pending : Option Call) (before : Option Run) (unit : UnitSee
   pub rest_is : (ended : Bool) (rest : List UnitSeen)
       → calls_among (runs_by ended (pending_units before ++ unit ∷ rest)) ≡ option_to_list (broken_off pending unit) ++ calls_among (runs_by ended (units_in last ++ rest))
 
--- the runs of units that a run begins, with a break after it
+-- the runs of data units that a run begins, with a break after it
 runs_by-split : (ended : Bool) (run : Run) (unit : UnitSeen) (rest : List UnitSeen) → IsUnbroken run.first run.others → is_break (last_unit run) unit ≡ true
     → runs_by ended (units_in run ++ unit ∷ rest) ≡ run ∷ runs_by ended (unit ∷ rest)
 unfolding runs_by closed_runs
@@ -70,7 +70,7 @@ runs_by-split false run unit rest unbroken breaks =
     let first = runs_of-begins unit rest in
     rw (runs_of-run run (unit ∷ rest) unbroken breaks, first.is)
 
--- a run of one unit
+-- a run of one data unit
 one-place : (place bits : ℕ) → place + bits ≡ place + (place + bits - place)
 one-place place bits = omega arith
 

@@ -2,7 +2,7 @@
 use Rattle.std.proofs.{Common.{◌≡◌, Bool, true, false, cond, List, [], ◌∷◌, ◌++◌, refl, sym, ap, ◌∙◌}, lemmas.Bool.{cond-true, cond-false}}
 use Rattle.p25_calls.specs.{declared.seen.UnitSeen.{UnitSeen}, Seen.{is_break}, Runs.{Run, last_of, last_unit, run_from, runs_of, units_in, with_unit}}
 
--- the first of some runs begins with a unit
+-- the first of some runs begins with a data unit
 pub record Begins (unit : UnitSeen) (runs : List Run) : Type 0 where
   pub others : List UnitSeen
   pub rest : List Run
@@ -38,24 +38,24 @@ with_unit-append unit run runs more =
     cond b (run_from unit [] ∷ run ∷ (runs ++ more)) (run_from unit (units_in run) ∷ (runs ++ more))
     ≡ cond b (run_from unit [] ∷ run ∷ runs) (run_from unit (units_in run) ∷ runs) ++ more) [ true ↦ refl | false ↦ refl ]
 
--- there is no break between neighbours among units of which the first is there
+-- there is no break between neighbours among data units of which the first is there
 abbrev pub IsUnbroken : UnitSeen → List UnitSeen → Type 0
 IsUnbroken unit [] = Unit {0}
 IsUnbroken unit (next ∷ units) = (is_break unit next ≡ false) × IsUnbroken next units
 
--- there is a break before the first of some units, if there is one, after a unit
+-- there is a break before the first of some data units, if there is one, after a data unit
 abbrev pub IsCutBefore : UnitSeen → List UnitSeen → Type 0
 IsCutBefore unit [] = Unit {0}
 IsCutBefore unit (next ∷ units) = is_break unit next ≡ true
 
--- units without a break are one run
+-- data units without a break are one run
 pub runs_of-unbroken : (unit : UnitSeen) (units : List UnitSeen) → IsUnbroken unit units → runs_of (unit ∷ units) ≡ run_from unit units ∷ []
 unfolding runs_of with_unit
 runs_of-unbroken unit [] unbroken = refl
 runs_of-unbroken unit (next ∷ units) unbroken =
     ap (with_unit unit) (runs_of-unbroken next units unbroken.1) ∙ with_unit-joins unit (run_from next units) [] unbroken.0
 
--- units divide at a break
+-- data units divide at a break
 one-split : (unit : UnitSeen) (more : List UnitSeen) → IsCutBefore unit more → with_unit unit (runs_of more) ≡ run_from unit [] ∷ runs_of more
 unfolding runs_of with_unit
 one-split unit [] cut = refl
@@ -78,7 +78,7 @@ pub runs_of-run : (run : Run) (more : List UnitSeen) → IsUnbroken run.first ru
 runs_of-run run more unbroken cut =
     runs_of-split run.first run.others more cut ∙ ap (λ (runs : List Run). runs ++ runs_of more) (runs_of-unbroken run.first run.others unbroken)
 
--- the last of some units and one more
+-- the last of some data units and one more
 pub last_of-append : (unit : UnitSeen) (units : List UnitSeen) (last : UnitSeen) → last_of unit (units ++ last ∷ []) ≡ last
 unfolding last_of
 last_of-append unit [] last = refl

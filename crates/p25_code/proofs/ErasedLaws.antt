@@ -124,7 +124,7 @@ module _ {L : Type 0} {same : L → L → Bool} {IsWord : List L → Type 0} {n 
         near_words code v w first.word_of_set second.word_of_set
         (omega (arith, wrong_triangle list, first.within, second.within, close))
 
-    -- so a list has one reading
+    -- so a list has one decoding
     pub one_erased_reading : (list : List (Option L)) (a b : Option (List L)) → length list ≡ n → IsErasedReadAs same IsWord most list a → IsErasedReadAs same IsWord most list b → a ≡ b
     unfolding IsErasedReadAs
     one_erased_reading list None None long first second = refl
@@ -132,7 +132,7 @@ module _ {L : Type 0} {same : L → L → Bool} {IsWord : List L → Type 0} {n 
     one_erased_reading list (Some v) None long first second = absurd (omega (arith, second.dearer, first.within))
     one_erased_reading list (Some v) (Some w) long first second = ap Some (one_within_cost list v w long first second)
 
-    -- a word of the set within the cost is the reading
+    -- a codeword of the set within the cost is the decoding
     pub erased_read_as_sent : (list : List (Option L)) (sent : List L) (answer : Option (List L))
         → length list ≡ n → IsErasedReadAs same IsWord most list answer → IsWord sent → erased_cost same list sent ≤ most → answer ≡ Some sent
     unfolding IsErasedReadAs

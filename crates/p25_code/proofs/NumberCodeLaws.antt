@@ -37,7 +37,7 @@ module _ (columns : List ℕ) (radius received sum : ℕ) (fits : received < 2 ^
           let bits : bits_of n number ≡ word = rw is.long at (bits_of-field_of word) in
           rw (← bits, distance_of-bits_of) (none.farther (bit_xor received number) (xor_lt n received number fits small) (number_sum-xor columns received number ∙ ap₂ bit_xor sums (cc (bits, is.passes)) ∙ xor_zero_r sum))
 
--- a reading depends on the set alone, not on how it is written
+-- a decoding depends on the set alone, not on its definition
 read_as_same_set : (A B : List Bool → Type 0) (radius : ℕ) (received : List Bool) (answer : Option (List Bool)) → ((w : List Bool) → A w → B w) → ((w : List Bool) → B w → A w)
     → IsReadAs beq A radius received answer → IsReadAs beq B radius received answer
 unfolding IsReadAs
@@ -66,7 +66,7 @@ information_fits {n} {k} {d} code received places shift fits =
 length-columns_of : {n k d : ℕ} (code : SystematicCode n k d) → length (columns_of code) ≡ n
 length-columns_of {n} {k} {d} code = rw (length-columns, code.is.table.rows_long) (bits_are code)
 
--- the reading of a word of the columns is that of the code
+-- the decoding for the words of the columns is that of the code
 read_as : {n k d : ℕ} (code : SystematicCode n k d) (bits : List Bool) (answer : Option (List Bool)) → length bits ≡ n
     → IsReadAs beq (IsChecked (columns_of code)) (radius_of d) bits answer → answer ≡ code.is.reading bits
 read_as {n} {k} {d} code bits answer long is_read =

@@ -36,7 +36,7 @@ layout_codes inner inner_reading reads_as places each n information code covers 
       (rs_erased_reading_of n information list) (long ∙ covers) (rs_erased_reads_as n information list) is near;
 }
 
--- a field was read
+-- a field was decoded
 pub field_found : (layout : Layout) (bare : List Bool) (answer : Reading) (word : List Sym) (fixes : ℕ) → answer ≡ Found fixes → word_read answer word ≡ outer_word_of layout bare
     → field_reading_of layout bare ≡ Some (take layout.information word)
 unfolding word_read
@@ -59,7 +59,7 @@ module _ (places : List ℕ) (size each n information : ℕ) (inner_reading : Li
   abbrev coded : Layout
   coded = field_layout places size each inner_reading (rs_erased_reading_of n information) information
 
-  -- the outer word that is read costs no more than is allowed
+  -- the decoded outer word costs no more than is allowed
   read_within : (received : List Bool) (word : List Sym) → outer_word_of coded received ≡ Some word
       → IsWithinCost same_symbols (IsWord n information) (n - information) (received_in coded received) word
   unfolding IsErasedReadAs outer_word_of
@@ -92,7 +92,7 @@ module _ (places : List ℕ) (size each n information : ℕ) (inner_reading : Li
         let found = word_of_reading received info read in
         record { near = rw (one_word_of n information code (sent_in coded sent) found.0 has.outer found.1.word_of_set (has.begins ∙ sym found.2)) found.1.within }
 
-    -- the information that was read has its length
+    -- the decoded information has its length
     pub field_information : (received : List Bool) (symbols : List Sym) → field_reading_of coded received ≡ Some symbols → length symbols ≡ information
     field_information received symbols read =
         let found = word_of_reading received symbols read in

@@ -75,7 +75,7 @@ pub first_next : {X : Type 0} (n : ℕ) (reading : ℕ → Option X) → first_f
 unfolding first_found
 first_next n reading none = ap (λ (found : Option _). option_or found (reading n)) none
 
--- no reading finds nothing
+-- no decoding finds nothing
 pub first_none : {X : Type 0} (reading : ℕ → Option X) → first_found 0 reading ≡ None
 unfolding first_found
 first_none reading = refl
@@ -164,7 +164,7 @@ first_at n most reading x inside none is =
     let count : suc most ≡ (most - n) + suc n = omega arith in
     sym (ap (λ m. first_found m reading) count ∙ first_stays (suc n) (most - n) reading x (first_next n reading none ∙ sym is))
 
--- readings that are the same one by one
+-- decodings that are the same one by one
 pub first_same : {X : Type 0} (n : ℕ) (f h : ℕ → Option X) → ((k : ℕ) → k < n → f k ≡ h k) → first_found n f ≡ first_found n h
 unfolding first_found
 first_same zero f h same = refl
@@ -203,7 +203,7 @@ decided_whole outer words costs most word read symbols whole is found =
     ∙ first_reading outer word words.each words.count (rank_at words costs) whole ∙ sym is in
     sym (first_some most (read_erasing words outer costs) read first found)
 
--- the symbols of informations that were read
+-- the symbols of decoded informations
 pub words_read : (words : InnerWords) (costs : List ℕ) (info : ℕ → ℕ) → ((i : ℕ) → i < words.count → info i ≡ information_at words costs i)
     → joined_below words.count (λ i. symbols_in words.each (bits_of (6 * words.each) (info i))) ≡ symbols_read words costs
 unfolding symbols_read

@@ -12,12 +12,12 @@ use Rattle.p25_link.specs.Symbols.{symbols_in}
 use Rattle.p25_coded_fields.specs.Layouts.{Layout, symbols_or_erasures, received_in, outer_word_of}
 use Rattle.p25_coded_fields.proofs.SymbolsLaws.{one_more, symbols_in-take}
 
--- a word that is read gives the symbols of its information
+-- a word that is decoded has the symbols of its information
 pub symbols_or_erasures-some : (each : ℕ) (word : List Bool) → symbols_or_erasures each (Some word) ≡ map Some (symbols_in each word)
 unfolding symbols_or_erasures
 symbols_or_erasures-some each word = refl
 
--- and one that is not gives erasures
+-- and one that is not has erasures
 pub symbols_or_erasures-none : (each : ℕ) → symbols_or_erasures each None ≡ replicate each None
 unfolding symbols_or_erasures
 symbols_or_erasures-none each = refl
@@ -39,7 +39,7 @@ pub received_reading : {answer given : Option ℕ} (size number : ℕ) (bits : L
     → option_map (bits_of size) answer ≡ reading (bits_of size number) → bits_of size number ≡ bits → option_map (bits_of size) given ≡ reading bits
 received_reading size number bits reading is read taken = rw (← is, read, taken) refl
 
--- an inner word was read
+-- an inner word was decoded
 pub inner_found : (size k each value : ℕ) (reading : Option (List Bool)) (symbols : List Sym) (erased : List Bool) → 6 * each ≡ k → k ≤ size → Some (bits_of size value) ≡ reading
     → symbols ≡ symbols_in each (bits_of (6 * each) (value / 2 ^ (size - k))) → erased ≡ replicate each false → without_erased symbols erased ≡ symbols_or_erasures each reading
 inner_found size k each value reading symbols erased sixes fits some made none =
@@ -47,13 +47,13 @@ inner_found size k each value reading symbols erased sixes fits some made none =
     rw (made, information_bits, symbols_in-take each k word (omega arith) (omega (arith, length-bits_of size value)), none, ← some, symbols_or_erasures-some)
     (without_erased-none (symbols_in each word) (replicate each false) (All-replicate (λ gone. gone ≡ false) each false refl))
 
--- no inner word was read
+-- no inner word was decoded
 pub inner_beyond : (each : ℕ) (reading : Option (List Bool)) (symbols : List Sym) (erased : List Bool) → length symbols ≡ each → None ≡ reading → erased ≡ replicate each true
     → without_erased symbols erased ≡ symbols_or_erasures each reading
 inner_beyond each reading symbols erased long none gone =
     rw (gone, ← none, symbols_or_erasures-none each) (without_erased-list symbols each long)
 
--- a word that is read is one of the set
+-- a decoded word is one of the set
 pub read_word_of_set : {L : Type 0} (same : L → L → Bool) (IsWord : List L → Type 0) (radius : ℕ) (received word : List L) (answer : Option (List L))
     → IsReadAs same IsWord radius received answer → answer ≡ Some word → IsWord word
 unfolding IsReadAs

@@ -14,7 +14,7 @@ use Rattle.p25_link.proofs.SymbolsLaws.{length-symbols_in}
 use Rattle.p25_coded_fields.specs.{Layouts.{Layout, symbols_or_erasures, received_in, outer_word_of, field_reading_of, sent_in}, Within.{HasField, IsFieldNear, lost_symbols, HasCodes}}
 use Rattle.p25_coded_fields.proofs.{ReadLaws.{symbols_or_erasures-some, symbols_or_erasures-none}, SymbolsLaws.{one_more}}
 
--- an inner word gives as many symbols or erasures as it carries
+-- an inner word has as many symbols or erasures as it carries
 pub length-symbols_or_erasures : (each : ℕ) (word : Option (List Bool)) → length (symbols_or_erasures each word) ≡ each
 length-symbols_or_erasures each (Some word) = rw (symbols_or_erasures-some, length-map) (length-symbols_in each word)
 length-symbols_or_erasures each None = rw (symbols_or_erasures-none each) (length-replicate each None)
@@ -31,7 +31,7 @@ length-received_in layout bits =
     length-pieces layout.each _ layout.places
     (λ at. length-symbols_or_erasures layout.each _)
 
--- the reading of a field whose outer word is read
+-- the decoding of a field whose outer word is decoded
 pub field_reading_of-some : (layout : Layout) (bits : List Bool) (word : List Sym) → outer_word_of layout bits ≡ Some word → field_reading_of layout bits ≡ Some (take layout.information word)
 unfolding field_reading_of
 field_reading_of-some layout bits word is = rw is

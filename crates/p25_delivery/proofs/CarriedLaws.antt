@@ -1,5 +1,5 @@
--- A message is read back from its blocks, in whatever order they arrive. By recursion on the slots: a stored block stays, because only the same block
--- can come to its entry again.
+-- A message is read back from its blocks, in whatever order they arrive. By recursion on the slots: a stored block stays, because only the same block can be
+-- stored in its entry again.
 use Rattle.std.proofs.Common.{◌≡◌, ℕ, zero, suc, ◌+◌, ◌-◌, ◌*◌, ◌<◌, ◌≤◌, inl, inr, Bool, true, false, cond, List, [], ◌∷◌, ◌++◌, length, take, drop, get_or, set, replicate, Option, Some, None, refl, ap, sym, ◌∙◌, arith, length-append, zero-add}
 use Rattle.std.proofs.lemmas.List.{get_or-set_same, get_or-set_other, ext_get_or, take_at, drop_at, length-replicate, take-append-le, append-nil}
 use Rattle.std.proofs.lemmas.Bool.{cases_eq, cond-true, and_from, eq-eqb, le-leb, lt-ltb}
@@ -80,7 +80,7 @@ put_slots-stays message (Good block ∷ slots) places j are h held =
     ] in
     put_slots-stays message slots (put_block places block) j are.1 (omega (arith, length-put_block places block)) same
 
--- a block that comes is held
+-- a block that arrives is held
 pub put_slots-comes : (message : List ℕ) (slots : List Slot) (places : List (Option BlockParts)) (j : ℕ) → AreBlocksOf message slots → j < length places → HoldsSerial j slots →
     get_or (put_slots places slots) j None ≡ Some (message_block message j)
 unfolding AreBlocksOf HoldsSerial put_slots

@@ -67,7 +67,7 @@ waiting-delivered : (number : ℕ) (message : List ℕ) (s : Session) (r : Recei
     IsArrived number message (with_delivered s message) (record { last = number; kept = None }) (Some (ack_packet number))
 waiting-delivered number message s r answered h = record { last_is = refl; kept = refl; answer = refl; earlier = s.delivered; sent = h.sent; delivered = sym h.sent; acknowledged = h.acknowledged }
 
--- or it had come before
+-- or it had arrived before
 arrived-again : (number : ℕ) (message : List ℕ) (s : Session) (r : Receiving) (answered : Option Packet)
     → IsArrived number message s r answered → IsArrived number message s r (Some (ack_packet r.last))
 arrived-again number message s r answered h = record {
@@ -215,7 +215,7 @@ answer-busy number message w packet x m h heard (goes_on a e) =
     rw is (answer-place number message w packet m h heard (rw h.next at a) h.place)
 answer-busy number message w packet x m h heard (stays t) = busy-stays number message w x h t.0 (rw h.next at t.1)
 
--- an opening packet is acknowledged only once it has come
+-- an opening packet is acknowledged only once it has arrived
 opened-place : (number b : ℕ) (s : Session) (w : Delivery) (sent packet : Packet)
     → IsOpening number b s w → IsOpeningAnswer w.inbound.receiver.last number sent → IsTrueTo sent packet → acks packet number ≡ true →
     (w.inbound.receiver.last ≡ number) × (w.inbound.receiver.kept ≡ None) × (sent ≡ ack_packet number)

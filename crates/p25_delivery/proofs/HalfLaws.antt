@@ -16,7 +16,7 @@ use Rattle.p25_delivery.proofs.SenderLaws.{IsSame, Resends, Stays, HearsAnswer, 
 use Rattle.p25_delivery.proofs.{SendableLaws.{message_packet-sendable, blocks_packet-sendable, opening_packet-sendable}, SendingLaws.{after-sending, timeout-sending, heard-sending}}
 use Rattle.p25_delivery.proofs.ReceivingLaws.{receiver-soundly}
 
--- a call's half is sound, and its packet can be sent
+-- the half after a call is sound, and its packet is sendable
 abbrev pub KeepsOutgoing : Outgoing × (StepKind × Option Packet) → Type 0
 KeepsOutgoing x = IsOutgoing x.0 × IfSome x.1.1 IsSendable
 
@@ -64,7 +64,7 @@ number-in : (out : Outstanding) (number : ℕ) → out ≡ Opening number → Is
 unfolding IsNumbered
 number-in out number e is = subst IsNumbered e is
 
--- data of a message can be sent
+-- the data of a message is sendable
 data-sendable : (number : ℕ) (message : List ℕ) (packet : Packet) → number < 8 → IsMessage message → IsDataOf number message packet → IsSendable packet
 unfolding IsDataOf
 data-sendable number message packet n is (inl e) = rw e (message_packet-sendable number message n is)

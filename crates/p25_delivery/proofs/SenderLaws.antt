@@ -42,7 +42,7 @@ offer-opening s message number o =
 
 -- a timeout
 
--- a packet that is sent again has some property
+-- a packet that is transmitted again has some property
 abbrev pub ResendsOf : (Packet → Type 0) → Resend → Type 0
 ResendsOf P (Sent number tries packet) = P packet
 ResendsOf P other = Unit {0}

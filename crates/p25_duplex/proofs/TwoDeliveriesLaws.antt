@@ -17,7 +17,7 @@ use Rattle.p25_duplex.proofs.KindLaws.{IsData, IsAnswer, sent-data, answered-ans
 
 -- Clean runs of a delivery.
 
--- a delivery to which a clean run comes
+-- a delivery to which a clean run leads
 pub record IsRunDelivery (w : Delivery) : Type 0 where
   pub happenings : List Happening
   pub clean : IsCleanRun first_delivery happenings

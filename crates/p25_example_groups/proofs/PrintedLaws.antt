@@ -9,7 +9,7 @@ use Rattle.p25_stream.proofs.ScanLaws.{gave-items}
 use Rattle.p25_units.specs.declared.item.Item.{Item}
 use Rattle.p25_example_groups.specs.Printed.{HasPrinted, item_line, lines_left, lines_of}
 
--- nothing came, and nothing was printed
+-- no bits came, and nothing was printed
 pub printed-none : (held : Option (List ℕ)) (scan : Scan) → HasPrinted [] held scan held scan
 printed-none held scan = record { lines = []; wrote = Appends-nil held; left = λ more goes. refl }
 

@@ -129,7 +129,7 @@ module _ {M : Type 0} (rules : LineRules M) where
     abbrev came : List (List ℕ) → LinesTaken M
     came = lines_taken rules.take (work.lines + 1) work.machine
 
-    -- of lines of which the first is too long comes that
+    -- the result of lines of which the first is too long
     first-long : (line : List ℕ) (lines : List (List ℕ)) → 8192 < length line → came (line ∷ lines) ≡ record { texts = []; machine = work.machine; refusal = Some (BadLine (work.lines + 1) Long) }
     first-long line lines long = taken-first (work.lines + 1) work.machine line lines (Err Long) (too_long work.machine line long)
 

@@ -17,7 +17,7 @@ use Rattle.p25_follow.specs.{Chains.{chain_by}, Expected.{expected_after, next_l
 use Rattle.p25_follow.proofs.{AlikeLaws.{Agree, agree-append, agree-less}, ChainLaws.{chain_by-none, chain_by-stop}, FollowingLaws.{along-items, followed-end, followed-rest, followed-unit}, FoundLaws.{found-unit}}
 use Rattle.p25_follow.proofs.{KindLaws.{Each}, StepLaws.{fits_of-kind}, ToldLaws.{told_of-expected}}
 
--- ---- the units of fewer than 316 bits
+-- ---- the data units of fewer than 316 bits
 
 voice-by : (a b c d e : Bool) (bare : ℕ) → b ≡ false
     → cond a (Some 770) (cond b (Some 140) (cond c (Some 1680) (cond d (Some 1680) (cond e (Some 420) None)))) ≡ Some bare → 420 ≤ bare
@@ -109,7 +109,7 @@ quiet-named : (name : Option (ℕ × ℕ)) (nid : ℕ × ℕ) → name ≡ Some 
 unfolding Quiet
 quiet-named name nid is three = subst Quiet (sym is) (subst IsQuiet (sym three) quiet-3)
 
--- a unit of fewer than 316 bits is a TDU, or cut
+-- a data unit of fewer than 316 bits is a TDU, or cut
 pub short-quiet : (at : ℕ) (bits : List Bool) → is_rest (first_item at bits) ≡ false → covered (first_item at bits) < 316 → Quiet (unit_name (first_item at bits))
 unfolding Quiet
 short-quiet at bits =

@@ -79,7 +79,7 @@ same-there bits others alike =
       | inr long ↦ record { sync = sync-same bits others long alike; need = need-long bits others long alike }
     ]
 
--- whether a unit begins
+-- whether a data unit begins
 pub rest-alike : (at other : ℕ) (bits others : List Bool) → 316 ≤ length bits → Alike bits others → is_rest (first_item at bits) ≡ is_rest (first_item other others)
 rest-alike at other bits others long alike = place-few at other bits others long (omega (arith, long, alike.long)) alike.same
 
@@ -90,7 +90,7 @@ rest-begins at bits others alike =
       | inr long ↦ rest-alike at at bits others long alike
     ]
 
--- ---- the unit there
+-- ---- the data unit there
 
 -- the data unit with which alike bits begin is the same if its bits are
 pub unit-alike : (at : ℕ) (bits others : List Bool) → Alike bits others → is_rest (first_item at bits) ≡ false → Agree (covered (first_item at bits)) bits others

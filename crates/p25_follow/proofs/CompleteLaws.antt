@@ -1,5 +1,5 @@
--- In a stretch, directly after a data unit that is found or whose sync and NID are written, a data unit that may follow with a near NID is output with its sync
--- and NID. By the data units that are written before it.
+-- In a stretch, a data unit that may follow with a near NID is output with its sync and NID. It lies directly after a data unit that is found, or whose sync
+-- and NID are written. By the data units that are written before it.
 use Rattle.std.proofs.Common.{◌≡◌, ℕ, ◌+◌, ◌-◌, ◌<◌, ◌≤◌, Bool, true, List, [], ◌∷◌, ◌++◌, length, take, drop, Option, Some, refl, sym, ◌∙◌, arith, length-drop}
 use Rattle.std.proofs.lemmas.List.{drop-drop, length-take-le, take_at}
 use Rattle.p25_bits.specs.Bits.{part}

@@ -77,7 +77,7 @@ expected-kinds kind =
     (is_kind 0x5 1728 length-5 (lit≤ tt) (lit≤ tt) (lit≤ tt)) (is_kind 0xA 1728 length-10 (lit≤ tt) (lit≤ tt) (lit≤ tt))
     (is_kind 0xF 432 length-15 (lit≤ tt) (lit≤ tt) (lit≤ tt)) kind
 
--- a logical link unit has 1,728 bits
+-- a logical link data unit has 1,728 bits
 pub record IsLink (kind : ℕ) : Type 0 where
   pub long : kind_length kind ≡ 1728
   pub fits : kind ≤ 15

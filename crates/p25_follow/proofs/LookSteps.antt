@@ -90,7 +90,7 @@ module _ (before : ℕ × ℕ) (bits : List Bool) (end : Option (ℕ × ℕ)) (l
       let fit = some-from_test (fits_by bits look.told) test in
       rw (is_answer, is_told, sure-something links (fit-something bits look.told fit.0 fit.1), fits-by)
 
-  -- a unit that does not fit
+  -- a data unit that does not fit
   pub step-unfit : is_some (fits_by bits look.told) ≡ false → is_nothing look.told ≡ false → None ≡ step_of before bits end
   step-unfit test told = rw (step-something told, unfit (none-from_test (fits_by bits look.told) test))
 

@@ -14,14 +14,14 @@ use Rattle.p25_follow.proofs.{FrontBitsLaws.{fronts-end, fronts-rest, fronts-uni
 use Rattle.p25_follow.proofs.{SameUnitsLaws.{Ends, RestPlaces, among-rest, places-of, same_units-in, unit-at}, StepLaws.{step_of-there}}
 use Rattle.p25_follow.proofs.WrittenUnitsLaws.{among-nil, among-unit, stretch-follow, units-end, units-rest, units-unit, written-step, written-stop}
 
--- bits that come out after a unit: the scan finds these units in them, and a second time they come out as they are
+-- the output after a data unit: the scan finds these data units in it, and a second time it is unchanged
 record IsOut (at : ℕ) (before : Option (ℕ × ℕ)) (out : List Bool) (units : List Item) : Type 0 where
   found : units_among (items_of at out) ≡ units
   again : followed_by true before [] (items_of at out) out ≡ out
 
 -- ---- the output for a stretch, and bits after it
 
--- bits are none, or a unit begins with them
+-- bits are none, or a data unit begins with them
 abbrev pub Begins : List Bool → Type 0
 Begins bits = (bits ≡ []) ⊎ (is_rest (first_item 0 bits) ≡ false)
 

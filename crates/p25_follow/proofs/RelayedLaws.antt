@@ -21,7 +21,7 @@ use Rattle.p25_stream.proofs.{ItemLaws.{image-whole, whole-within}, ItemsLaws.{f
 use Rattle.p25_follow.specs.{Followed.{unit_name}, Relayed.{relayed, relayed_broken, relayed_item}, RelayLaws.{RelayedIsFound}}
 use Rattle.p25_follow.proofs.BehindLaws.{AreAlikeBehind, body_reading-alike, head_reading-alike}
 
--- ---- a broken unit
+-- ---- a broken data unit
 module _ (nac duid : ℕ) (status : Status) (raw : List Bool) (blocks : ℕ) (long : length raw ≡ 72 * blocks) (some : 2 ≤ blocks) where
   symbols : List Status
   symbols = replicate (length (statuses_of raw)) status

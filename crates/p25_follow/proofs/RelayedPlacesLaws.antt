@@ -14,7 +14,7 @@ relay-long nac status bits nac_fits = written-all (relayed nac status) (item-lon
 pub relay-in-place : RelaysInPlace
 relay-in-place nac status bits before item after nac_fits = part-written (relayed nac status) (item-long nac status nac_fits) true 0 bits before item after
 
--- ---- each unit is found again, unless an earlier one covers its first bit
+-- ---- each data unit is found again, unless an earlier one covers its first bit
 named-unit : (nac : ℕ) (status : Status) (item : Item) (name : ℕ × ℕ) → unit_name item ≡ Some name → is_rest (relayed_item nac status item) ≡ false
 named-unit nac status (Whole place frame fixes) name unit = refl
 named-unit nac status (Broken place count ours duid fields) name unit = refl

@@ -56,7 +56,7 @@ skipped at n bits there rests =
     ∙ same-units at 0 bits span.stretch span.after span.joined span.all span.ends (omega arith)
     ∙ sym (same-units at n bits span.stretch span.after span.joined span.all span.ends within)
 
--- ---- a unit that is cut covers all bits
+-- ---- a data unit that is cut covers all bits
 
 from-uncut : (at : ℕ) (nid : ℕ × ℕ) (sent : List Bool) (place have : ℕ) (reading : Result Frame (List Field)) → item_from at nid sent reading ≡ Cut place have → ⊥
 from-uncut at nid sent place have (Ok frame) is = cc is

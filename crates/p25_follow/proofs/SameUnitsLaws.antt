@@ -14,7 +14,7 @@ use Rattle.p25_follow.proofs.{FoundLaws.{found-unit}, StepLaws.{and_left-true, a
 
 -- ---- an item depends on its bits alone
 
--- the item of a unit of a known length is a unit
+-- the item of a data unit of a known length is a data unit
 pub unit-there : (at count : ℕ) (bits : List Bool) → need_of bits ≡ Length count → is_rest (unit_item_of at (take count bits)) ≡ false
 unit-there at count bits need =
     let there = need_of-there bits count need in
@@ -36,7 +36,7 @@ unit-synced at bits unit =
       | inr no' ↦ absurd (true-false (is_rest (first_item at bits)) (no_sync-rest at bits no') unit)
     ]
 
--- whether a unit begins is the same wherever the stream begins
+-- whether a data unit begins is the same wherever the stream begins
 pub rest-at : (at other : ℕ) (bits : List Bool) → is_rest (first_item at bits) ≡ true → is_rest (first_item other bits) ≡ true
 rest-at at other bits rest =
     first_item-cases (λ item. is_rest (first_item at bits) ≡ true → is_rest item ≡ true) other bits
@@ -54,7 +54,7 @@ rest-at at other bits rest =
 abbrev pub RestPlaces : ℕ → List Bool → Type 0
 RestPlaces count bits = (place : ℕ) → place < count → is_rest (first_item 0 (drop place bits)) ≡ true
 
--- and then comes one, or the end
+-- and then one begins, or the bits end
 abbrev pub Ends : ℕ → List Bool → Type 0
 Ends count bits = (count ≡ length bits) ⊎ (is_rest (first_item 0 (drop count bits)) ≡ false)
 
@@ -109,7 +109,7 @@ along-stretch P back (suc n) at (suc more) before bits few there rests ends end 
     (along-stretch P back n (at + c) less (before ++ take c bits) left (omega (arith, fits.0)) (omega (arith, length-drop c bits)) (λ p first. rw drop-drop (rests (c + p) (omega arith)))
     (ends-later count c bits left less (omega (arith, length-drop c bits)) to_end ends) (rw (place, to_end, append_assoc, ← take-add, all) end))
 
--- ---- the units after it
+-- ---- the data units after it
 
 pub among-rest : (item : Item) (items : List Item) → is_rest item ≡ true → units_among (item ∷ items) ≡ units_among items
 unfolding units_among

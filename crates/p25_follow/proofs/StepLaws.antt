@@ -111,7 +111,7 @@ pub step_of-nil : (before : ℕ × ℕ) (end : Option (ℕ × ℕ)) → step_of 
 unfolding step_of fits_of fits_by
 step_of-nil before end = rw (told_of-short before [] (omega arith))
 
--- ---- the bits of the unit of a step are there
+-- ---- the bits of the data unit of a step are there
 
 pub record IsStep (bits : List Bool) (kind : ℕ) : Type 0 where
   pub there : kind_length kind ≤ length bits

@@ -38,7 +38,7 @@ pub step-reads : (before : ℕ × ℕ) (bits : List Bool) (end : Option (ℕ × 
 unfolding step_of
 step-reads before bits end kind name is reads = reads-by before bits end kind name (fits_of before bits) reads refl is
 
--- a unit that may come, whose identifier lies within 11 bits of its own, is stepped over
+-- a step is made over a data unit that may follow, and whose identifier lies within 11 bits of its own
 pub step-near : (nac before kind : ℕ) (bits : List Bool) (end : Option (ℕ × ℕ)) → nac < 4096 → kind < 16 → is_expected before kind ≡ true → 114 ≤ kind_length kind → kind_length kind ≤ length bits
     → name_errors_of (nac, kind) bits ≤ 11 → step_of (nac, before) bits end ≡ Some kind
 unfolding step_of fits_of told_name name_errors_of

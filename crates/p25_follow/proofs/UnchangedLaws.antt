@@ -35,7 +35,7 @@ module _ (name : ℕ × ℕ) (bits : List Bool) (long : 114 ≤ length bits) whe
       let place : length first ≡ 114 = rw (length-append, length-append) (omega (arith, first_long, symbol_long, length-drop 70 front, length-unit_front name.0 name.1)) in
       rw (← append_assoc (part 70 2 bits), ← append_assoc (take 70 front)) (drop_at first (drop 114 bits) 114 place)
 
--- ---- a recording without a stretch after a unit
+-- ---- a recording without a stretch after a data unit
 
 abbrev Untouched : Option (ℕ × ℕ) → List Bool → Type 0
 Untouched before stretch = (before ≡ None) ⊎ (stretch ≡ [])

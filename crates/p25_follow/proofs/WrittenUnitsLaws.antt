@@ -72,7 +72,7 @@ pub written-step : (at : ℕ) (before : ℕ × ℕ) (bits : List Bool) (end : Op
 unfolding units_step
 written-step at before bits end kind is = rw (written-some, is)
 
--- ---- the units of a stretch and of the items after it
+-- ---- the data units of a stretch and of the items after it
 
 pub units-end : (at : ℕ) (before : Option (ℕ × ℕ)) (stretch bits : List Bool) → units_by at before stretch [] bits ≡ written_units at before stretch None
 unfolding units_by
@@ -97,7 +97,7 @@ pub among-nil : units_among [] ≡ []
 unfolding units_among
 among-nil = refl
 
--- ---- bits in which no unit begins are a stretch
+-- ---- bits in which no data unit begins are a stretch
 
 pub stretch-follow : (at count : ℕ) (before : Option (ℕ × ℕ)) (stretch bits : List Bool) → count ≤ length bits → RestPlaces count bits → Ends count bits
     → followed_by true before stretch (items_of at bits) bits ≡ followed_by true before (stretch ++ take count bits) (items_of (at + count) (drop count bits)) (drop count bits)

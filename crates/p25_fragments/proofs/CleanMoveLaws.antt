@@ -83,7 +83,7 @@ acknowledged-is v w k l o e =
     let p : present_session w ≡ with_acknowledged (present_session v) = ap present_session e ∙ present-acknowledged (lists_of v) k.divided.0 in
     sym (ap (λ (x : Session). length x.delivered) p) ∙ quiet-counts w l o ∙ ap (λ (x : Session). x.acknowledged) p
 
--- The session is open: the opening packet had come.
+-- The session is open: the opening packet had arrived.
 pub opened-is : (number : ℕ) (v w : Delivery) → IsKept v → IsKept w → outstanding_in v ≡ Opening number → outstanding_in w ≡ Nothing → w.outbound.sender.next ≡ (number + 1) % 8 → HasSameLast v w →
     lists_of w ≡ lists_of v → v.inbound.receiver.last ≡ number
 unfolding FactsBy

@@ -22,7 +22,7 @@ use Rattle.p25_fragments.proofs.{MoveLaws.{Moves, moves_nothing, ends, delivers,
 erasures_in : Delivery → List Mark
 erasures_in v = v.outbound.marks
 
--- marks stay, or one more comes
+-- marks stay, or there is one more
 OneMore : List Mark → List Mark → Type 0
 OneMore before after = (after ≡ before) ⊎ ((mark : Mark) × (after ≡ before ++ mark ∷ []))
 

@@ -25,7 +25,7 @@ module _ {F : Type 0} (K : Field F) where
   pub add_self : (x : F) → x ⊕ x ≡ 𝟘
   add_self = K.laws.add_self
 
-  -- a term that comes twice goes
+  -- a term that is added twice cancels
   pub add_twice : (x y : F) → x ⊕ (x ⊕ y) ≡ y
   add_twice x y = sym (add_assoc x x y) ∙ ap (λ w. w ⊕ y) (add_self x) ∙ zero_add y
 

@@ -1,5 +1,5 @@
--- The text of a list decodes to the list, and a word that decodes to a list is its text, provided that this holds for each entry and no entry's text has a
--- comma. By induction on the parts.
+-- The text of a list decodes to the list, and a word that decodes to a list is its text: if this holds for each entry and no entry's text has a comma. By
+-- induction on the parts.
 use Rattle.std.proofs.Common.{◌≡◌, ℕ, ◌<◌, ◌==◌, Bool, true, false, List, [], ◌∷◌, length, map, Option, Some, inl, inr, refl, sym, ap, ap₂, ◌∙◌, arith}
 use Rattle.std.proofs.{lemmas.Bool.{cases_Bool, cond-false}, lemmas.List.Splits.{join_with_byte-slice_split, length-slice_split}, lemmas.Slice.Eq.{bytes_eq-Decides}}
 use Rattle.std.specs.{List.{join_with_byte, list_all}, Str.{bytes_eq}}

@@ -145,7 +145,7 @@ module _ (half : HalfNear) (three_quarter : ThreeQuarterNear) (nac : ℕ) where
       ]
       ∙ ap (λ carried. Ok (Plain (make carried))) front
 
-  -- the whole unit, without status symbols
+  -- the whole data unit, without status symbols
   pub packet_within : (packet : Packet) (received : List Bool) → IsSendable packet → AreBlocksWithin packet (packet_image_of nac packet) received → packet_reading_of received ≡ Ok packet
   packet_within packet received sendable within =
       packet_reading_of-good received (packet_head packet) (cc (

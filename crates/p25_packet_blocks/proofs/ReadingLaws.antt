@@ -119,7 +119,7 @@ packet_of_head-other head bare not_16 not_15 not_03 =
     cond-false (eqb (head_format head) 0x16) _ _ (ne_eqb _ _ not_16)
     ∙ cond-false (eqb (head_format head) 0x15 || eqb (head_format head) 0x03) _ _ (or_none _ _ (ne_eqb _ _ not_15) (ne_eqb _ _ not_03))
 
--- The packet of a unit.
+-- The packet of a data unit.
 
 pub packet_reading_of-bad : (bare : List Bool) (field : Field) → head_reading_of bare ≡ Err field → packet_reading_of bare ≡ Err field
 unfolding packet_reading_of packet_from
@@ -129,7 +129,7 @@ pub packet_reading_of-good : (bare : List Bool) (head : PacketHead) → head_rea
 unfolding packet_reading_of packet_from
 packet_reading_of-good bare head is = rw is refl
 
--- a unit that has its length has it for its header
+-- a data unit that has its length has it for its header
 pub HasItsLength-head : (bare : List Bool) (head : PacketHead) → HasItsLength bare → head_reading_of bare ≡ Ok head → packet_bits (head_blocks head) ≤ length bare
 unfolding HasItsLength
 HasItsLength-head bare head has is = has head is

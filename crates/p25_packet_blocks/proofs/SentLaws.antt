@@ -13,7 +13,7 @@ use Rattle.p25_packet_blocks.specs.{Within.{block_radius, AreBlocksWithin, IsPac
 use Rattle.p25_packet_blocks.proofs.{ReadingLaws.{head_reading_of-is}, UnitLaws.{sent_header_bits-is, sent_head_of-is, sent_packet_of-whole, packet_unit_of-good}, SendableLaws.{IsSendable-head}}
 use Rattle.p25_packet_blocks.proofs.{PlacesLaws.{image_long, image_front}, RadiusLaws.{HalfNear, ThreeQuarterNear, head_again, head_within, body_within}}
 
--- the header block of a sent unit is that of its bits without status symbols
+-- the header block of a transmitted data unit is that of its bits without status symbols
 pub sent_header_bits-bare_of : (blocks : ℕ) (sent : List Bool) → 5 ≤ blocks → length sent ≡ 72 * blocks → sent_header_bits sent ≡ header_bits (bare_of sent)
 sent_header_bits-bare_of blocks sent five long =
     let bare = bare_of sent in
@@ -87,7 +87,7 @@ module _ (half : HalfNear) (three_quarter : ThreeQuarterNear) (nac : ℕ) (packe
   none_wrong : (bits : List Bool) (most : ℕ) → distance_of bits bits ≤ most
   none_wrong bits most = omega (arith, distance_of-same bits)
 
-  -- and so does the unit itself
+  -- and so does the data unit itself
   pub sent_again : packet_unit_of whole ≡ Ok (nac, packet)
   sent_again =
       sent_within whole (record {

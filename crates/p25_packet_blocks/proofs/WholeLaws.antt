@@ -246,9 +246,9 @@ IsReadOf-head head bare packet is_head is whole =
       ]
     ]
 
--- The packet of a unit.
+-- The packet of a data unit.
 
--- a packet that was read and in which no slot is Bad
+-- a decoded packet in which no slot is `Bad`
 pub record IsWholeRead (bare : List Bool) (packet : Packet) : Type 0 where
   pub head : head_reading_of bare ≡ Ok (packet_head packet)
   pub sendable : IsSendable packet

@@ -24,7 +24,7 @@ packet_told sent e = elim (cases_lt (length sent) 316) [
   | inr enough ↦ head_told (sent_head_of sent) (length sent) (sym (packet_need-long sent (omega arith)) ∙ e)
 ]
 
--- a broken unit has the identifier that was read
+-- a broken data unit has the decoded identifier
 same_duid : (place : ℕ) (nid : ℕ × ℕ) (sent : List Bool) (reading : Result Frame (List Field)) (at count nac duid : ℕ) (fields : List Field)
     → item_from place nid sent reading ≡ Broken at count nac duid fields → nid.1 ≡ duid
 same_duid place nid sent (Ok frame) at count nac duid fields e = absurd (cc)
@@ -55,7 +55,7 @@ unfolding softened_count
 softened_count-packet item sent place count nac duid fields is packet =
     rw (is, eq-eqb duid 0xC packet)
 
--- of another broken unit
+-- of another broken data unit
 pub softened-unpacked : (item : Item) (levels : List ℤ) (sent : List Bool) (place count nac duid : ℕ) (fields : List Field) → item ≡ Broken place count nac duid fields → duid ≢ 0xC
     → softened item levels sent ≡ sent
 unfolding softened
@@ -79,7 +79,7 @@ unfolding softened_count
 softened_count-other (Broken place count nac duid fields) sent other = absurd (other place count nac duid fields refl)
 softened_count-other item sent other = refl
 
--- the item of a unit that its bits are is read from them
+-- the item of a data unit is the decoding of its bits
 read_from : (item : Item) (place : ℕ) (sent : List Bool) → need_of sent ≡ Length (length sent) → place_of item ≡ place → unit_item_of place sent ≡ item → IsReadFrom item sent
 unfolding IsReadFrom
 read_from (Broken at count nac duid fields) place sent need here is = (need, ap (λ p. unit_item_of p sent) here ∙ is)

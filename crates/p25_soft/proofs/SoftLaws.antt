@@ -32,7 +32,7 @@ pub length-soft_octets : (states width : ℕ) (point : ℕ → ℕ → ℕ) (lev
 unfolding soft_octets
 length-soft_octets states width point levels = length-numbers_from 8 (6 * width) (number_bits width (take 48 (soft_path states point levels)))
 
--- the sent bits of the soft path are the block of its octets
+-- the transmitted bits of the soft path are the block of its octets
 pub soft_block-is : (states width : ℕ) (point : ℕ → ℕ → ℕ) (levels : List ℤ)
     → states ≡ 2 ^ width → 0 < states → soft_block states point levels ≡ block_from width point (soft_octets states width point levels)
 unfolding soft_block soft_octets

@@ -150,7 +150,7 @@ pub carried-heard : (sent : Packet) (flips : List ℕ) (nac : ℕ) (packet : Pac
 unfolding carried_of carried_from
 carried-heard sent flips nac packet e own = rw e (cond-true (eqb nac station_nac) _ _ (eq-eqb _ _ own))
 
--- A packet that can be sent has no Bad slot.
+-- A sendable packet has no slot that is `Bad`.
 pub sendable-whole : (packet : Packet) → IsSendable packet → IsWholePacket packet
 unfolding IsSendable IsWholePacket
 sendable-whole (Confirmed packet) sendable = record {

@@ -89,7 +89,7 @@ distance-identifier xs ys e h =
       distance_of-part 72 42 xs ys e,
     )
 
--- at most one bit of it comes inverted
+-- at most one bit of it is inverted
 pub few-arrive : (packet : Packet) (flips : List ℕ) → IsSendable packet → places_within packet flips < 2 → ArrivesWithin packet flips
 unfolding ArrivesWithin
 few-arrive packet flips sendable few =

@@ -8,7 +8,7 @@ use Rattle.p25_delivery.proofs.{HalfLaws.{KeepsOutgoing, KeepsIncoming, offer-ke
 use Rattle.p25_stations.specs.{declared.step.Event.{Event}, declared.step.Step.{Step}, WorldState.{WorldState, first_world}, Steps.{world_step}, Runs.{IsEvent, AreEvents, world_run}}
 use Rattle.p25_stations.proofs.{NewestLaws.{newest-sendable}, StepLaws.{HasHappen, offers, is_late, opens, brings_data, brings_answer, Does, rests, does, step-does}}
 
--- a delivery with sound halves, whose newest transmissions can be sent
+-- a delivery with sound halves, whose newest transmissions are sendable
 pub record IsSoundDelivery (w : Delivery) : Type 0 where
   pub outbound : IsOutgoing w.outbound
   pub inbound : IsIncoming w.inbound

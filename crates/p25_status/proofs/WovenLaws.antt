@@ -175,7 +175,7 @@ part_in (suc blocks) (suc i) from count sent e h few =
     ∙ ap (take count) (drop-drop (72 * i + from) 72 sent)
     ∙ ap (λ n. part n count sent) sent_place
 
--- a part of one block of a unit is a part of that block as sent
+-- a part of one block of a data unit is a part of that transmitted block
 pub part-bare_of : (blocks i from count : ℕ) (sent : List Bool)
     → length sent ≡ 72 * blocks → i < blocks → from + count ≤ 70 → part (70 * i + from) count (bare_of sent) ≡ part (72 * i + from) count sent
 unfolding bare_of

@@ -1,5 +1,5 @@
--- Data units end to end are whole, by induction on their list: each is decided by its own bits. A data unit after other bits is found there, by
--- induction on the number of those bits. The first item of them ends before it, or it is a data unit that covers its first bit.
+-- Data units end to end are whole, by induction on their list: each is decided by its own bits. A data unit after other bits is found there, by induction on
+-- the number of those bits. The first item of them ends before it, or it is a data unit that covers its first bit.
 use Rattle.std.proofs.Common.{◌≡◌, ℕ, zero, suc, ◌+◌, ◌<◌, ◌≤◌, ◌⊎◌, inl, inr, Bool, true, false, List, [], ◌∷◌, ◌++◌, length, drop, refl, ap, sym, ◌∙◌, arith, append_assoc, append-nil, length-append, length-drop, sum_by}
 use Rattle.std.proofs.{lemmas.Bool.{cases_lt}, Math.Nat.{add-zero}, lemmas.List.{drop-append-le, drop_all, drop_at}, lemmas.List.Elements.{All-head, All-tail}, lemmas.List.Sums.{sum_by-cons}}
 use Rattle.p25_status.specs.Sync.{has_sync}
@@ -18,7 +18,7 @@ pub wholes_of-cons : (place : ℕ) (arrival : Arrival) (arrivals : List Arrival)
 unfolding wholes_of
 wholes_of-cons place arrival arrivals = refl
 
--- a unit alone: its item is decided by its bits, and covers them
+-- a data unit alone: its item is decided by its bits, and covers them
 module _ (at : ℕ) (arrival : Arrival) (is : IsNearArrival arrival) where
   alone : (first_item at arrival.bits ≡ whole_of at arrival) × (is_decided arrival.bits ≡ true) × (covered (first_item at arrival.bits) ≡ length arrival.bits)
   alone = rw append-nil at (near-whole at arrival.frame arrival.bits [] is.sound is.sendable is.near)
@@ -36,7 +36,7 @@ module _ (at : ℕ) (arrival : Arrival) (is : IsNearArrival arrival) where
   pub items_by-arrival : (ended : Bool) (more : List Bool) → items_by ended at (arrival.bits ++ more) ≡ whole_of at arrival ∷ items_by ended (at + length arrival.bits) more
   items_by-arrival ended more = rw (items_by-decided ended at arrival.bits more alone.1, alone.2, alone.0, drop_all (length arrival.bits) arrival.bits (omega arith))
 
--- units end to end
+-- data units end to end
 pub units-whole : UnitsAreWhole
 units-whole ended at [] more near =
     rw (wholes_of-nil, add-zero)

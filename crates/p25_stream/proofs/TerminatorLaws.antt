@@ -1,4 +1,4 @@
--- Terminators among the items: the laws of all whole units, at a frame with two status symbols.
+-- Terminators among the items: the laws of all whole data units, at a frame with two status symbols.
 use Rattle.std.proofs.{Common.{◌≡◌, ◌≤◌, ◌++◌, length, take, drop, ap, sym, ◌∙◌, subst, arith}, lemmas.List.{take-append-drop, length-take}}
 use Rattle.p25_status.specs.Woven.{statuses_of}
 use Rattle.p25_units.specs.{Terminators.{terminator}, WholeLaws.{IsWholeOf}, declared.item.Item.TheVariants.{Whole}}

@@ -15,7 +15,7 @@ use Rattle.p25_text.specs.{Grammar.{body_values, keyed, kind_of, text_of, unit_w
 use Rattle.p25_text.specs.{Packets.{packet_values, slot_text}, Voices.{voice_octets}, declared.names.UnitKey.{UnitKey}}
 use Rattle.p25_text.proofs.{GrammarLaws.{kind-word}, WordLaws.{key-word}}
 
--- ---- units
+-- ---- data units
 
 ascii-keyed : (keys : List UnitKey) (values : List (List ℕ)) → list_all is_ascii values ≡ true → list_all is_ascii (keyed keys values) ≡ true
 ascii-keyed (key ∷ keys) (value ∷ values) all =

@@ -125,7 +125,7 @@ unit_words-words unit fits =
     let digits = digits-printed (three_digits unit.nac) (printed-three_digits unit.nac (omega (arith, fits.nac_fits))) in
     ap₂ ◌&&◌ (kind-word (kind_of unit.body)) (keyed-words (keys_of (kind_of unit.body)) (values_of unit) (ap₂ ◌&&◌ digits (body-printed unit.body fits.body)))
 
--- the line of a unit is not too long
+-- the line of a data unit is not too long
 pub length-text_of : (unit : UnitParts) → IsSendableUnit unit → length (text_of unit) ≤ 4700
 unfolding text_of
 length-text_of unit fits =
@@ -141,7 +141,7 @@ read_words-unit_words unit fits =
     ∙ ap (λ values. found_read (read_values kind) (ok_or values Key)) (values_behind-keyed (keys_of kind) (values_of unit) count)
     ∙ ap (λ found. ok_or found Value) (ap₂ unit_from (nac_in-three_digits unit.nac (omega (arith, fits.nac_fits))) (body_in-values unit.body fits.body))
 
--- the values that a unit was read from
+-- the values that decode to a data unit
 from-parts : (kind : UnitKind) (nac_word : List ℕ) (values : List (List ℕ)) (nac : Option ℕ) (body : Option Body) (unit : UnitParts)
     → nac_in nac_word ≡ nac → body_in kind values ≡ body → unit_from nac body ≡ Some unit
     → (kind_of unit.body ≡ kind) × (values_of unit ≡ nac_word ∷ values) × IsSendableUnit unit
@@ -190,7 +190,7 @@ pub read_line-text_of : (unit : UnitParts) → IsSendableUnit unit → read_line
 unfolding read_line_of text_of
 read_line-text_of unit fits = line_read-words unit_laws unit fits (omega (arith, length-text_of unit fits))
 
--- a line that is read is the line of its unit
+-- a line that is read is the line of its data unit
 pub text_of-read_line : (line : List ℕ) (unit : UnitParts) → read_line_of line ≡ Ok unit → (text_of unit ≡ line) × IsSendableUnit unit
 unfolding read_line_of text_of
 text_of-read_line line unit found = let is = words-line_read unit_laws line unit found in (is.text, is.fits)

@@ -162,7 +162,7 @@ low_wide low frames fits = record { long = fits.two; small = fits.small }
 
 -- ---- for each type
 
--- the fields of a unit have the widths of their keys
+-- the fields of a data unit have the widths of their keys
 voice-wide : (unit : VoiceUnit) → IsSendableVoice unit → AllWide (other_keys (voice_kind unit)) (voice_octets unit)
 unfolding IsSendableVoice
 voice-wide (Header word) fits =
@@ -173,7 +173,7 @@ voice-wide (Link2 sync low voice) fits =
 voice-wide End fits = tt
 voice-wide (EndLink link) fits = (nine_octets link.0 fits.octets, tt)
 
--- the unit of the octets of a unit
+-- the data unit of the octets of a data unit
 voice_from-octets : (unit : VoiceUnit) → IsSendableVoice unit → voice_from (voice_kind unit) (voice_octets unit) ≡ Some unit
 unfolding IsSendableVoice
 voice_from-octets (Header word) fits =
@@ -241,7 +241,7 @@ digits-few : (kind : UnitKind) → digits_of (other_keys kind) ≤ 4620
 digits-few Hdu = omega arith
 digits-few kind = omega arith
 
--- ---- all voice units
+-- ---- all voice data units
 
 -- there is a value for each key
 pub voice-count : (unit : VoiceUnit) → IsSendableVoice unit → length (other_keys (voice_kind unit)) ≡ length (voice_values unit)

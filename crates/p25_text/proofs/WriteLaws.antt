@@ -21,7 +21,7 @@ join-tail : (word : List ℕ) (keys : List UnitKey) (values : List (List ℕ)) �
 join-tail word (key ∷ keys) (value ∷ values) = ap (λ l. word ++ 32 ∷ l) (join-tail (key_text key ++ value) keys values)
 join-tail word keys values = sym (append-nil word)
 
--- the line of a unit
+-- the line of a data unit
 text-tail : (unit : UnitParts) → text_of unit ≡ kind_word (kind_of unit.body) ++ tail_text (keys_of (kind_of unit.body)) (values_of unit)
 unfolding text_of
 text-tail unit = join-tail (kind_word (kind_of unit.body)) (keys_of (kind_of unit.body)) (values_of unit)

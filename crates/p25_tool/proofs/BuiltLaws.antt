@@ -22,7 +22,7 @@ use Rattle.p25_recording_filters.specs.ItemOutputs.{shown}
 use Rattle.p25_tool.proofs.RecordedLaws.{items-recording, octet_bits-whole, shows-units, whole-image}
 
 module _ (status : Status) where
-  -- a unit that is built, as one that came without damage
+  -- a data unit that is built, as one that was received without damage
   abbrev built : UnitParts → Arrival
   built unit = record { frame = filled_frame status unit; bits = image_of (filled_frame status unit) }
 
@@ -63,14 +63,14 @@ module _ (status : Status) where
       octet_bits-append (image_octets status unit) (flat_map (image_octets status) units)
       ∙ ap₂ ◌++◌ (octet_bits-whole image (whole-image (filled_frame status unit) (built-sound unit sendable) sendable)) (images-built units (All-tail IsSendableUnit unit units all))
 
-  -- they are a recording of units without damage
+  -- they are a recording of data units without damage
   built-recording : (units : List UnitParts) (octets : List ℕ) → All IsSendableUnit units → octet_bits octets ≡ bits_built status units → IsRecording (map built units) octets
   built-recording units octets sendable bits = record {
     near = All-map IsNearArrival built units (All-weaker IsSendableUnit (λ unit. IsNearArrival (built unit)) built-near units sendable);
     bits = bits ∙ sym (flat_map-map (λ (arrival : Arrival). arrival.bits) built units);
   }
 
--- units whose texts are the first of some lines
+-- data units whose texts are the first of some lines
 AreTexts : List (List ℕ) → List UnitParts → Type 0
 AreTexts lines units = All IsSendableUnit units × (map text_of units ≡ take (length units) lines)
 

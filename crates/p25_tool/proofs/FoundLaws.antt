@@ -12,7 +12,7 @@ use Rattle.p25_recording_filters.specs.ItemOutputs.{shown}
 use Rattle.p25_tool.specs.Recorded.{RepairKeepsLength, RepairsEachUnit, ShowsEachUnit}
 use Rattle.p25_tool.proofs.RecordedLaws.{octet_bits-whole}
 
--- the unit is hidden or found among the items of octets
+-- the data unit is hidden or found among the items of octets
 found-octets : (octets : List ℕ) (bits : List Bool) (arrival : Arrival) (more : List Bool) → IsNearArrival arrival → octet_bits octets ≡ bits ++ (arrival.bits ++ more)
     → IsHidden (length bits) (items_of 0 (octet_bits octets)) ⊎ IsFound 0 (length bits) arrival more (items_of 0 (octet_bits octets))
 found-octets octets bits arrival more is all =

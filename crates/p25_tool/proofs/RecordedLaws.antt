@@ -40,7 +40,7 @@ pub whole-image : (frame : Frame) → IsSoundFrame frame → IsSendableUnit fram
 whole-image frame sound sendable = omega (arith, length-image_of-blocks frame sound sendable)
 
 module _ (arrival : Arrival) (is : IsNearArrival arrival) where
-  -- so do the bits of a unit, and its image as received
+  -- so do the bits of a data unit, and its image as received
   whole-bits : length arrival.bits % 8 ≡ 0
   whole-bits = omega (arith, is.near.front.long, whole-image arrival.frame is.sound is.sendable)
 
@@ -79,7 +79,7 @@ units-recorded arrivals near = record { near = near; bits = octet_bits-whole (bi
 pub shows-units : ShowsUnits
 shows-units ended arrivals octets is = ap (flat_map shown) (items-recording ended arrivals octets is)
 
--- whole units have no text in a check, and are counted
+-- whole data units have no text in a check, and are counted
 no-faulty : (place : ℕ) (arrivals : List Arrival) → flat_map faulty (wholes_of place arrivals) ≡ []
 no-faulty place [] = ap (flat_map faulty) (wholes_of-nil place)
 no-faulty place (arrival ∷ arrivals) = ap (flat_map faulty) (wholes_of-cons place arrival arrivals) ∙ no-faulty (place + length arrival.bits) arrivals
@@ -104,7 +104,7 @@ checks-units arrivals octets is =
       ap (λ (items : List Item). Some (check_ending (faults_in items))) (items-recording true arrivals octets is) ∙ ap (λ (n : ℕ). Some (check_ending n)) (no-faults 0 arrivals),
     )
 
--- the bits of whole units, each changed by its frame alone
+-- the bits of whole data units, each changed by its frame alone
 module _ (change : Item → List Bool → List Bool) (of_frame : Frame → List Bool)
     (by_frame : (place : ℕ) (frame : Frame) (fixes : ℕ) (raw : List Bool) → change (Whole place frame fixes) raw ≡ of_frame frame) where
   changed-wholes : (place : ℕ) (arrivals : List Arrival) → All IsNearArrival arrivals
@@ -149,7 +149,7 @@ relays-units ended nac status arrivals octets fits is =
     changed-recording (relayed nac status) (λ frame. image_of (bridged_frame nac status frame)) (λ place frame fixes raw. refl) ended arrivals octets is
     (λ arrival near. whole-bridged arrival near nac status fits)
 
--- units end to end have no stretch, so their bits come as they are
+-- data units end to end have no stretch, so their bits are unchanged
 followed-wholes : (ended : Bool) (before : Option (ℕ × ℕ)) (place : ℕ) (arrivals : List Arrival) → All IsNearArrival arrivals
     → followed_by ended before [] (wholes_of place arrivals) (bits_arrived arrivals) ≡ bits_arrived arrivals
 followed-wholes ended before place [] near =

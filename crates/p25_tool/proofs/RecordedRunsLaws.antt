@@ -66,7 +66,7 @@ module _ (nac : ℕ) (status : Status) where
   command-fit (first ∷ second ∷ third ∷ []) = forwarded-fit first second (nac_in second) (status_in third) refl
   command-fit words = ((λ is. absurd (cc is)), (λ is. absurd (cc is)))
 
--- a command that works on units takes no memory
+-- a command that works on data units allocates no memory
 no-memory : (command : Command) → IsUnitCommand command → CanWantMemory command → ⊥
 no-memory Show units wants = wants
 no-memory Check units wants = wants

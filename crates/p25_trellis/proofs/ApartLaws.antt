@@ -70,7 +70,7 @@ same_from_near states apart point parted some together stays parts (suc before) 
     differs : x ≡ y → eqb x y ≡ false → ⊥
     differs same two = let one = eq-eqb x y same in cc
 
--- a path has 196 sent bits
+-- a path has 196 transmitted bits
 pub length-sent_bits : (states : ℕ) (point : ℕ → ℕ → ℕ) (path : List ℕ) → IsPath states path → length (sent_bits point path) ≡ 196
 unfolding sent_bits
 length-sent_bits states point path is =

@@ -30,7 +30,7 @@ IsFirstLeast-exact states apart point received path some far is sends =
           ))) (not_after-same path);
     }
 
--- a path that sends nibbles as far as it goes, whatever follows, sends one more by the symbol whose point is the next nibble
+-- a path that transmits nibbles as far as it goes, whatever follows, transmits one more by the symbol whose point is the next nibble
 pub sends_more : (point : ℕ → ℕ → ℕ) (nibbles path : List ℕ) (step state symbol : ℕ) → step < length path → step < length nibbles → point state symbol ≡ get_or nibbles step 0
     → ((rest : List ℕ) → nibbles_from point 0 (take step path ++ rest) ≡ take step nibbles ++ nibbles_from point state rest)
     → (rest : List ℕ) → nibbles_from point 0 (take (step + 1) (set path step symbol) ++ rest) ≡ take (step + 1) nibbles ++ nibbles_from point symbol rest
@@ -45,7 +45,7 @@ sends_more point nibbles path step state symbol inside there sends so_far rest =
       take_more nibbles step 0 there,
     )
 
--- with the point of the last state it sends them all
+-- with the point of the last state it transmits them all
 pub sends_all : (point : ℕ → ℕ → ℕ) (nibbles path : List ℕ) (step state : ℕ) → step ≡ 48 → length nibbles ≡ 49 → drop 48 path ≡ 0 ∷ [] → point state 0 ≡ get_or nibbles 48 0
     → ((rest : List ℕ) → nibbles_from point 0 (take step path ++ rest) ≡ take step nibbles ++ nibbles_from point state rest) → nibbles_from point 0 path ≡ nibbles
 sends_all point nibbles path step state done long last sends so_far =

@@ -155,7 +155,7 @@ same_first_least states cost path other one two =
     let equal : cost other ≡ cost path = omega (arith, one.least, two.least) in
     IsNotAfter-antisym path other (one.first other two.is_path equal) (two.first path one.is_path (sym equal))
 
--- there is one reading
+-- there is one decoding
 pub same_reading : (states width : ℕ) (cost : List ℕ → ℕ) (octets others : List ℕ) (total other_total : ℕ) → IsFirstLeastReading states width cost octets total
     → IsFirstLeastReading states width cost others other_total → (octets ≡ others) × (total ≡ other_total)
 same_reading states width cost octets others total other_total one two =

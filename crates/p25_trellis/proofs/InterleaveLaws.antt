@@ -89,7 +89,7 @@ distance_by-interleaved same xs ys long =
 eqb-same : (n : ℕ) → eqb n n ≡ true
 eqb-same n = eq-eqb n n refl
 
--- no other list is sent in the same way
+-- no other list is transmitted in the same order
 pub same_from_interleaved : (xs ys : List ℕ) → interleaved xs ≡ interleaved ys → xs ≡ ys
 same_from_interleaved xs ys same =
     let long : length xs ≡ length ys = rw (← length-interleaved, same, length-interleaved) in

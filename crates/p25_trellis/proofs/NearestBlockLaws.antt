@@ -5,7 +5,7 @@ use Rattle.p25_bits.proofs.{DistanceLaws.{distance_by-le}, NumbersLaws.{length-n
 use Rattle.p25_trellis.specs.{Trellis.{sent_bits}, Nearest.{nearest_octets, nearest_distance, block_from}}
 use Rattle.p25_trellis.proofs.{ApartLaws.{length-sent_bits}, NearestLaws.{nearest_reading, same_block_from}}
 
--- the octets that are read are octets
+-- the decoded octets are octets
 pub All-nearest_octets : (states width : ℕ) (point : ℕ → ℕ → ℕ) (received : List Bool) → 0 < states → All (λ octet. octet < 256) (nearest_octets states width point received)
 All-nearest_octets states width point received some = (nearest_reading states width point received some).carries.are_octets
 

@@ -62,7 +62,7 @@ unit_front-only nac duid bits is =
 pub IsFront-iff : (nac duid : ℕ) (bits : List Bool) → IsFront nac duid bits ↔ (bits ≡ unit_front nac duid)
 IsFront-iff nac duid bits = (unit_front-only nac duid bits, λ same. subst (λ (xs : List Bool). IsFront nac duid xs) (sym same) (IsFront-unit_front nac duid))
 
--- the identifier of a sent unit has 64 bits
+-- the identifier of a transmitted data unit has 64 bits
 pub length-identifier_bits : (sent : List Bool) → 114 ≤ length sent → length (identifier_bits sent) ≡ 64
 unfolding identifier_bits
 length-identifier_bits sent long =
@@ -126,7 +126,7 @@ unfolding front_of
 front_of-identifier nac duid sent long same =
     sym (drop_at (take 48 sent) (identifier_bits sent) 48 (length-take-le 48 sent long)) ∙ ap (drop 48) same ∙ drop-unit_front nac duid
 
--- an identifier that was read has 12 and 4 bits
+-- a decoded identifier has 12 and 4 bits
 pub identifier_of-fits : (sent : List Bool) (nid : ℕ × ℕ) → identifier_of sent ≡ Some nid → (nid.0 < 4096) × (nid.1 < 16)
 unfolding identifier_of IsNidReading
 identifier_of-fits sent nid is =
@@ -135,7 +135,7 @@ identifier_of-fits sent nid is =
     let duid : nid.1 ≡ field_of (part 12 4 found.word) = ap (λ n. n.1) found.begins in
     (omega (arith, nac, field-lt 12 0 found.word), omega (arith, duid, field-lt 4 12 found.word))
 
--- wherever a word of the code lies within 11 bits, its identifier is read
+-- if a codeword lies within 11 bits, the decoding is its identifier
 pub identifier_of-near : (nac duid : ℕ) (sent : List Bool) → nac < 4096
     → duid < 16 → 114 ≤ length sent → distance_of (take 63 (identifier_bits sent)) (take 63 (nid_word nac duid)) ≤ 11 → identifier_of sent ≡ Some (nac, duid)
 unfolding identifier_of

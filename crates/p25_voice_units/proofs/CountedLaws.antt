@@ -52,7 +52,7 @@ link_words_there : (bits : List Bool) → 1680 ≤ length bits → All (λ at. a
 unfolding word_places places_from
 link_words_there bits there = all_end 10 1680 (length bits) (word_places 10 ldu_rows) refl there
 
--- a unit with voice
+-- a data unit with voice
 link_distance : (symbols : List Sym) (first second : ℕ) (received image : List Bool) → 1680 ≤ length received → 1680 ≤ length image
     → inner_bits 10 (word_places 10 ldu_rows) image ≡ field_bits hamming10_word 1 (length (word_places 10 ldu_rows)) symbols
     → part 1504 16 image ≡ lsd16_word (bits_of 8 first) → part 1520 16 image ≡ lsd16_word (bits_of 8 second)

@@ -43,7 +43,7 @@ voice_fails bare fields =
     (λ e. ldu_fails SyncField (λ sync low. Link2 sync low (voice_in bare)) (sync_in bare) (low_in 0 bare) (low_in 1 bare) fields (sym (reading-ldu2 bare) ∙ e))
     (λ e. tdulc_fails (link_in tdulc_layout bare) fields (sym (reading-tdulc bare) ∙ e))
 
--- so it is with a reading of it
+-- so it is with a decoding of it
 pub some_fields : (duid count : ℕ) (bare : List Bool) (reading : Result VoiceUnit (List Field))
     → voice_length_of duid ≡ Some count → reading ≡ voice_reading_of duid bare → IfErr reading (λ fields. 0 < length fields)
 some_fields duid count bare (Ok unit) long is = tt

@@ -30,7 +30,7 @@ pub record AreRows (size count : ℕ) (carried : Contents) (rows : List (ℕ × 
 
 module _ {IsWord : List Bool → Type 0} {size k : ℕ} {carried : Contents}
     (carries : IsCarried IsWord size k carried) {count : ℕ} {table : List (ℕ × Piece)} (are : AreRows size count carried table) where
-  -- the bits of a unit are as many as they should be
+  -- the bits of a data unit are as many as its layout has
   pub length-unit : (nac duid : ℕ) → length (unit_front nac duid ++ rows_bits carried table) ≡ count
   length-unit nac duid =
       length-append (unit_front nac duid) (rows_bits carried table) ∙ ap₂ ◌+◌ (length-unit_front nac duid) (length-rows_bits carries table are.fit) ∙ sym are.fill
@@ -50,7 +50,7 @@ module _ {IsWord : List Bool → Type 0} {size k : ℕ} {carried : Contents}
     pieces = rows_have carried size table bare (unit_parts nac duid bare is);
   }
 
-  -- bits that are laid out and have their words are the unit's
+  -- bits that are laid out and have their words are the data unit's
   pub laid_out-only : (nac duid : ℕ) (bare : List Bool) → voice_length_of duid ≡ Some count → IsLaidOut nac duid table carried.low carried.voice bare
       → ((i : ℕ) → i < length (word_places size table) → part (get_or (word_places size table) i 0) size bare ≡ group_word carries (0 + i)) → bare ≡ unit_front nac duid ++ rows_bits carried table
   laid_out-only nac duid bare known is words =
@@ -88,7 +88,7 @@ module _ {IsWord : List Bool → Type 0} {size k : ℕ} {carried : Contents}
     abbrev coded : Layout
     coded = field_layout (word_places size table) size carried.each inner_reading (rs_erased_reading_of n information) information
 
-    -- the unit carries its field
+    -- the data unit carries its field
     field_carried : (nac duid : ℕ) (bare : List Bool) → bare ≡ unit_front nac duid ++ rows_bits carried table → HasField IsWord (IsOuterWord n information) coded info bare
     field_carried nac duid bare is =
         let outer : IsEncoding (IsOuterWord n information) information info carried.symbols = rw made (IsEncoding-rs_word n information info code long) in

@@ -39,7 +39,7 @@ pub reading_by_kind : (duid kind : ℕ) (bare : List Bool) (answer value : Resul
 reading_by_kind duid kind bare answer value same is read = is ∙ sym read ∙ ap (λ d. voice_reading_of d bare) (sym same)
 
 module _ {X : Type 0} (field : Field) (unit : X → List ℕ → VoiceUnit) where
-  -- a unit with voice, all of whose parts were read
+  -- a data unit with voice, all of whose parts were decoded
   pub ldu_whole : (answer : Option X) (low_first low_second : Option ℕ) (word : X) (first second : ℕ) → answer ≡ Some word → low_first ≡ Some first → low_second ≡ Some second
       → ldu_from field unit answer low_first low_second ≡ Ok (unit word (first ∷ second ∷ []))
   unfolding ldu_from
@@ -69,7 +69,7 @@ module _ {X : Type 0} (field : Field) (unit : X → List ℕ → VoiceUnit) wher
   ldu_from-map f (Some s) None second = refl
   ldu_from-map f None first second = refl
 
--- a unit with voice by the outcome of its parts, its word and its voice frames
+-- a data unit with voice by the outcome of its parts, its word and its voice frames
 pub ldu_read : {S X : Type 0} (field : Field) (unit : X → List ℕ → List VoiceFrame → VoiceUnit)
     (f : S → X) (outcome : ReadOutcome) (symbols : S) (low : List ℕ) (word : X) (voice : List VoiceFrame) (bare : List Bool) (reading : Option S)
     → ((made : S → List ℕ → VoiceUnit) → read_or outcome (made symbols low) ≡ ldu_from field made reading (low_in 0 bare) (low_in 1 bare)) → word ≡ f symbols → voice ≡ voice_in bare

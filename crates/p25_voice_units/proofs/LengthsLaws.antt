@@ -62,7 +62,7 @@ module _ {X : Type 0} (header end ldu1 ldu2 tdulc other : X) where
       at : (kind : ℕ) → duid ≡ kind → P kind (by_duid kind) → P duid (by_duid duid)
       at kind same holds = subst (λ d. P d (by_duid d)) (sym same) holds
 
--- an identifier of no voice unit
+-- an identifier of no voice data unit
 pub length-other : (duid : ℕ) → duid ≢ 0 → duid ≢ 3 → duid ≢ 5 → duid ≢ 10 → duid ≢ 15 → voice_length_of duid ≡ None
 unfolding voice_length_of
 length-other = by_duid-other (Some 770) (Some 140) (Some 1680) (Some 1680) (Some 420) None
@@ -83,7 +83,7 @@ voice_lengths =
     length-cases (λ duid count. (112 ≤ count) × (count ≤ 1680) × (count % 70 ≡ 0))
     (lit≤ tt, lit≤ tt, refl) (lit≤ tt, lit≤ tt, refl) (lit≤ tt, lit≤ tt, refl) (lit≤ tt, lit≤ tt, refl) (lit≤ tt, lit≤ tt, refl)
 
--- each voice unit has a length
+-- each voice data unit has a length
 pub length-known : (unit : VoiceUnit) → voice_length_of (voice_duid unit) ≡ Some (unwrap_or (voice_length_of (voice_duid unit)) 0)
 unfolding voice_length_of
 length-known (Header word) = refl

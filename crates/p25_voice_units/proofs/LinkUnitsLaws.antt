@@ -63,7 +63,7 @@ failing_any outcome fields x y is = ap (λ o. read_or o x) is ∙ sym (ap (λ o.
 -- the decoding of a data unit of such a type
 module _ {W : Type 0} (duid k : ℕ) (field : Field) (unit : W → List ℕ → List VoiceFrame → VoiceUnit) (symbols_of : W → List Sym) (of_symbols : List Sym → W)
     (kind : IsVoiceKind duid k field unit symbols_of of_symbols) (bare : List Bool) (symbols : List Sym) (low : List ℕ) where
-  -- its reading
+  -- its decoding
   kind_value : (outcome : ReadOutcome) (word : W) (voice : List VoiceFrame) → AreParts k field bare outcome symbols low
       → word ≡ of_symbols symbols → voice ≡ voice_in bare → read_or outcome (unit word low voice) ≡ voice_reading_of duid bare
   kind_value outcome word voice parts made spoken =

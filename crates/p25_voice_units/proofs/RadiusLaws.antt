@@ -44,7 +44,7 @@ two_of (x ∷ []) long = absurd (omega arith)
 two_of (x ∷ y ∷ []) long = refl
 two_of (x ∷ y ∷ z ∷ xs) long = absurd (omega arith)
 
--- a unit with voice whose word is read, and whose low speed words are near
+-- a data unit with voice whose word is decoded, and whose low speed data words are near
 ldu_within : {X : Type 0} (field : Field) (unit : X → List ℕ → VoiceUnit)
     (answer : Option X) (word : X) (low : List ℕ) (voice : List VoiceFrame) (sent received : List Bool) → answer ≡ Some word → IsSpeech low voice
     → All (λ row. HasPiece low voice sent row.0 row.1) ldu_rows → length received ≡ 1680
@@ -140,7 +140,7 @@ frame_row low voice bare pieces (suc (suc (suc (suc (suc (suc (suc zero))))))) i
 frame_row low voice bare pieces (suc (suc (suc (suc (suc (suc (suc (suc zero)))))))) inside = (pieces 16 (0, Nulls 0) (lit< tt), omega arith)
 frame_row low voice bare pieces (suc (suc (suc (suc (suc (suc (suc (suc (suc i))))))))) inside = absurd (omega arith)
 
--- so undamaged bits give the frames
+-- so undamaged bits have the frames
 voice_back : (nac duid : ℕ) (low : List ℕ) (voice : List VoiceFrame) (bare : List Bool) → IsSpeech low voice → voice_length_of duid ≡ Some 1680
     → IsLaidOut nac duid ldu_rows low voice bare → voice_in bare ≡ voice
 unfolding voice_in
@@ -182,7 +182,7 @@ voice_reading_of-image nac unit keeps =
 
 -- The decoding of a voice data unit: each decoded part is the codeword near to the received bits, and the data unit's own bits have the only codeword with this information.
 
--- a part that was read is that of the symbols that were read
+-- a decoded part is that of the decoded symbols
 symbols_read : {W : Type 0} (of_symbols : List Sym → W) (symbols_of : W → List Sym) (n : ℕ) (reading : Option (List Sym)) (word : W)
     → ((symbols : List Sym) → length symbols ≡ n → symbols_of (of_symbols symbols) ≡ symbols)
     → ((symbols : List Sym) → reading ≡ Some symbols → length symbols ≡ n) → option_map of_symbols reading ≡ Some word → reading ≡ Some (symbols_of word)
@@ -208,7 +208,7 @@ record AreRead {W : Type 0} (answer : Option W) (first second : Option ℕ) (wor
   first_read : first ≡ Some (slice_index low 0)
   second_read : second ≡ Some (slice_index low 1)
 
--- a unit that is known by its word and its octets was made of them
+-- a data unit that is known by its word and its octets was made of them
 ldu_read_parts : {X : Type 0} (field : Field) (unit : X → List ℕ → VoiceUnit) (answer : Option X) (first second : Option ℕ) (word : X) (low : List ℕ) (made : VoiceUnit)
     → ((read : X) (octets : List ℕ) → unit read octets ≡ made → (read ≡ word) × (octets ≡ low))
     → ldu_from field unit answer first second ≡ Ok made → AreRead answer first second word low
@@ -221,7 +221,7 @@ ldu_read_parts field unit (Some read) (Some a) (Some b) word low made known is =
     let parts = known read (a ∷ b ∷ []) same in
     record { word_read = ap Some parts.0; first_read = ap (λ xs. Some (slice_index xs 0)) parts.1; second_read = ap (λ xs. Some (slice_index xs 1)) parts.1 }
 
--- a low speed word that was read lies within 2 bits of the one that carries the octet
+-- a decoded low speed data word lies within 2 bits of the codeword that carries the octet
 low_whole : (at octet : ℕ) (sent received : List Bool) (answer : Option (List Bool))
     → IsReadAs beq IsLsd16 2 (part at 16 received) answer → option_map (λ (w : List Bool). field_of (take 8 w)) answer ≡ Some octet
     → IsEncoding IsLsd16 8 (bits_of 8 octet) (part at 16 sent) → distance_of (part at 16 received) (part at 16 sent) ≤ 2

@@ -47,7 +47,7 @@ pub nine_frames : length (frame_places ldu_rows) ≡ 9
 unfolding frame_places
 nine_frames = refl
 
--- one more of them was read
+-- one more of them was decoded
 pub frames_next : (i : ℕ) (bare : List Bool) (frames : List VoiceFrame) (frame : VoiceFrame) → i < 9 → length frames ≡ 9 → take i frames ≡ map (λ at. frame_in at bare) (take i (frame_places ldu_rows))
     → frame ≡ frame_in (slice_index (frame_places ldu_rows) i) bare → take (i + 1) (set frames i frame) ≡ map (λ at. frame_in at bare) (take (i + 1) (frame_places ldu_rows))
 frames_next i bare frames frame inside nine before is =

@@ -35,7 +35,7 @@ sync_keeps : (symbols : List Sym) → IsEncryptionSync (sync_of_symbols symbols)
 unfolding sync_of_symbols sync_of_bits
 sync_keeps symbols = let bits = symbol_bits symbols in record { mi = nine_octets bits; algid = field-lt 8 72 bits; kid = field-lt 16 80 bits }
 
--- so does a word that was read
+-- so does a decoded word
 read_keeps : {S W : Type 0} (P : W → Type 0) (f : S → W) (value : Option S) (word : W) → ((s : S) → P (f s)) → option_map f value ≡ Some word → P word
 read_keeps P f None word keeps is = absurd (cc)
 read_keeps P f (Some s) word keeps is = let same : f s ≡ word = cc in subst P same (keeps s)

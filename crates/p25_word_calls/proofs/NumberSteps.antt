@@ -11,7 +11,7 @@ same_number : (n number : ℕ) → number < 2 ^ n → number ≡ field_of (bits_
 same_number n number fits = sym (field_of-bits_of n number ∙ mod-eq_of_lt fits)
 
 module _ (n : ℕ) (reading_is : List Bool → Option (List Bool)) (old : ℕ) (fits : old < 2 ^ n) where
-  -- a word that was read
+  -- a word that was decoded
   pub number_read : (sent : ℕ) (answer : ℤ) → sent < 2 ^ n → option_map (bits_of n) (Some sent) ≡ reading_is (bits_of n old) → answer ≡ pos (count_ones (bit_xor old sent))
       → IsNumberReading n reading_is old sent answer
   unfolding fixes_answer
@@ -31,7 +31,7 @@ module _ (n : ℕ) (reading_is : List Bool → Option (List Bool)) (old : ℕ) (
   }
 
 module _ (received : List Bool) (old : ℕ × ℕ) where
-  -- an identifier that was read
+  -- an identifier that was decoded
   pub identifier_read : (nid : ℕ × ℕ) (answer : ℤ) → Some nid ≡ nid_reading_of received → answer ≡ pos (distance_of (take 63 received) (take 63 (nid_word nid.0 nid.1)))
       → IsIdentifierReading received old nid answer
   unfolding identifier_answer
