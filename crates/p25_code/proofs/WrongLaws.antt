@@ -197,7 +197,7 @@ module _ (rows turned : List ℕ) (inverse : AreInverse rows turned) (radius sum
   halves_wrong wrong small are =
       rw (turns, inverse.second sum small) at (turned_wrong turned rows (length rows) radius turned_sum wrong inverse.long refl inverse.second are)
 
-  -- of at most three bits at most one is in one of the halves
+  -- one of the halves has at most one of at most three bits
   pub none_by_halves : radius ≤ 3 → NoneByRows (rows ++ check_columns (length rows)) (length rows) radius sum → NoneByRows (turned ++ check_columns (length rows)) (length rows) radius turned_sum
       → NoneWrong (rows ++ check_columns (length rows)) radius sum
   unfolding halves_turned

@@ -38,7 +38,7 @@ flat_map_by_place f xs d (suc n) inside =
       flat_map_by_place f xs d n (omega arith),
     ) refl
 
--- of all elements
+-- the results for all elements
 pub flat_map_places : {X Y : Type 0} (f : X → List Y) (xs : List X) (d : X) → flat_map f xs ≡ joined_below (length xs) (λ i. f (get_or xs i d))
 flat_map_places f xs d =
     let every : length xs ≤ length xs = omega arith in rw (take_all) at (flat_map_by_place f xs d _ every)

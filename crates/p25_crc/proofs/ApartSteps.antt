@@ -20,7 +20,7 @@ Has : ℕ → List ℕ → Type 0
 Has v [] = ⊥
 Has v (x ∷ xs) = (x ≡ v) ⊎ Has v xs
 
--- of a list the halves of the even numbers, or those of the odd ones
+-- the halves of the even numbers of a list, or of the odd ones
 kept : Bool → ℕ → List ℕ → List ℕ
 kept true v vs = v ∷ vs
 kept false v vs = vs

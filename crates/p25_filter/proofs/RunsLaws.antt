@@ -12,7 +12,7 @@ use Rattle.p25_filter.specs.Traces.{AreReads, Begins, Broken, EndsAs, Going, Has
 use Rattle.p25_filter.proofs.{TracesLaws.{IsLive-parts, after_all-append}, WentLaws.{HasEnd, Went}}
 pub use Rattle.p25_filter.proofs.TracesLaws.{first-take}
 
--- of an input that is not too long all is written
+-- all octets of an input that is not too long count
 not-long : (most count : ℕ) (x y : List ℕ) → count ≤ most → cond (nat_lt most count) x y ≡ y
 not-long most count x y few = grind (arith, nat_tests)
 
@@ -250,7 +250,7 @@ module _ (future : Future) (input rest : List ℕ) (none : all_written future in
       let begins = decided-begins future at.phase at.octets more (at.text ++ piece) decided (λ same. (is.over same, over same)) in
       omega (arith, some, ap length begins.is, ap length (ap (all_written future) (sym whole) ∙ none), length-append (at.text ++ piece) begins.rest, length-append at.text piece)
 
-  -- of an input of which nothing is to be written the events are reads alone
+  -- the events for an input without output are reads alone
   quiet-by : (at : Standing) (events : List Event) → IsLive future at events → IsBounded at → input ≡ at.octets ++ (octets_read events ++ rest)
       → (at.phase ≡ Over → octets_read events ++ rest ≡ []) → (HasEnd events → rest ≡ []) → AreReads events
   quiet-by at [] live is whole over ended = tt

@@ -25,7 +25,7 @@ rest-plain (NoUnit place field) raw rest = refl
 rest-plain (Gap place count) raw rest = refl
 rest-plain (Cut place have) raw rest = absurd (cc)
 
--- of a stretch it writes the bits
+-- its output for a stretch is the bits
 pub stretch-repair : (at count : ℕ) (bits : List Bool) → count ≤ length bits → RestPlaces count bits → Ends count bits
     → repaired_from at bits ≡ take count bits ++ repaired_from (at + count) (drop count bits)
 stretch-repair at count bits there rests ends =

@@ -139,7 +139,7 @@ pub record IsReadOf (head : PacketHead) (bare : List Bool) (packet : Packet) : T
   pub sendable : IsSendable packet
   pub blocks : (j : ℕ) → j < head_blocks head → IsBlockRead packet j (block_bits bare j)
 
--- of a confirmed packet
+-- a confirmed packet
 module _ (head : PacketHead) (bare : List Bool) where
   abbrev slot_octets : ℕ → List ℕ
   slot_octets j = three_quarter_octets (block_bits bare j)
@@ -167,7 +167,7 @@ module _ (head : PacketHead) (bare : List Bool) where
     blocks = λ j inside. let is = block_is good j inside in (is.0, is.1, is.2.octets_are);
   }
 
--- of another packet
+-- another packet
 module _ (head : PacketHead) (bare : List Bool) where
   abbrev all_octets : List ℕ
   all_octets = octets_read (head_blocks head) bare

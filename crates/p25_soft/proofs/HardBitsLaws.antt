@@ -10,7 +10,7 @@ pub length-hard_bits : (levels : List ℤ) → length (hard_bits levels) ≡ 2 *
 unfolding hard_bits
 length-hard_bits levels = length-number_bits 2 (map hard_dibit levels) ∙ ap (λ n. 2 * n) (length-map levels hard_dibit)
 
--- hard bits of levels and one more
+-- the hard bits of levels and one more
 pub hard_bits-one_more : (levels : List ℤ) (level : ℤ) → hard_bits (levels ++ level ∷ []) ≡ hard_bits levels ++ bits_of 2 (hard_dibit level)
 unfolding hard_bits
 hard_bits-one_more levels level =
@@ -22,12 +22,12 @@ pub hard_bits-none : hard_bits [] ≡ []
 unfolding hard_bits number_bits
 hard_bits-none = refl
 
--- of levels that are joined
+-- the hard bits of joined levels
 pub hard_bits-append : (xs ys : List ℤ) → hard_bits (xs ++ ys) ≡ hard_bits xs ++ hard_bits ys
 unfolding hard_bits
 hard_bits-append xs ys = ap (number_bits 2) (map-append hard_dibit xs ys) ∙ number_bits-append 2 (map hard_dibit xs) (map hard_dibit ys)
 
--- of a part of levels
+-- the hard bits of a part of levels
 pub hard_bits-take : (i : ℕ) (levels : List ℤ) → i ≤ length levels → take (2 * i) (hard_bits levels) ≡ hard_bits (take i levels)
 unfolding hard_bits
 hard_bits-take i levels inside =

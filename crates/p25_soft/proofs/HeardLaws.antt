@@ -55,7 +55,7 @@ unfolding softened_count
 softened_count-packet item sent place count nac duid fields is packet =
     rw (is, eq-eqb duid 0xC packet)
 
--- of another broken data unit
+-- the output for another broken data unit
 pub softened-unpacked : (item : Item) (levels : List ℤ) (sent : List Bool) (place count nac duid : ℕ) (fields : List Field) → item ≡ Broken place count nac duid fields → duid ≢ 0xC
     → softened item levels sent ≡ sent
 unfolding softened
@@ -67,7 +67,7 @@ unfolding softened_count
 softened_count-unpacked item sent place count nac duid fields is other =
     rw (is, ne_eqb duid 0xC other)
 
--- and of every other item
+-- and for every other item
 pub softened-other : (item : Item) (levels : List ℤ) (sent : List Bool)
     → ((place count nac duid : ℕ) (fields : List Field) → item ≡ Broken place count nac duid fields → ⊥) → softened item levels sent ≡ sent
 unfolding softened

@@ -32,7 +32,7 @@ items-there (item ∷ before) items ended at bits is =
     let first = items_by-first ended at bits item (before ++ items) is in
     omega (arith, sum_by-cons covered item before, items-there before items ended (at + covered item) (drop (covered item) bits) (sym first.2), length-drop (covered item) bits)
 
--- of each item as many bits are written as it covers
+-- the output for each item has as many bits as it covers
 module _ (write : Item → List Bool → List Bool)
     (keeps : (at : ℕ) (bits : List Bool) (item : Item) → first_item at bits ≡ item → covered item ≤ length bits → length (write item (take (covered item) bits)) ≡ covered item) where
   pub written-long : (before items : List Item) (ended : Bool) (at : ℕ) (bits : List Bool) → items_by ended at bits ≡ before ++ items

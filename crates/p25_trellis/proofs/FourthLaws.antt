@@ -48,7 +48,7 @@ length-fourths_within wait [] early = omega (arith, early)
 length-fourths_within zero (x ∷ xs) early = omega (arith, length-fourths_within 3 xs)
 length-fourths_within (suc wait) (x ∷ xs) early = omega (arith, length-fourths_within wait xs)
 
--- so of 49 elements these many
+-- so the numbers of such elements among 49
 pub length-fourths_of_49 : {X : Type 0} (wait count : ℕ) (xs : List X) → wait < 4 → length xs ≡ 49 → wait + 4 * count ≤ 52 → 49 ≤ wait + 4 * count
     → length (each_fourth wait xs) ≡ count
 length-fourths_of_49 wait count xs early long there all = omega (arith, long, there, all, length-fourths_reach, length-fourths_within)
