@@ -13,7 +13,7 @@ _p25() {
 }
 complete -o default -F _p25 p25 ./p25
 
-# The options of a helper script are those that its help names before its first empty line.
+# Completes the options of a helper script, which are those that its help names before its first empty line.
 _p25_companion() {
     local word=${COMP_WORDS[COMP_CWORD]} words
     # Files are the default.

@@ -13,14 +13,14 @@ from p25_guess import Search, chunks_of, followed_of, has_lines, split_program
 from p25_lines import BITS_A_SECOND, item_of
 
 NAME = re.compile(r"(?<![0-9])([0-9]{4})-?([0-9]{2})-?([0-9]{2})[T_ -]?([0-9]{2})[-:_]?([0-9]{2})(?:[-:_]?([0-9]{2}))?(?![0-9])(Z|[-+][0-9]{2}:?[0-9]{2})?")
-# What stands beside recordings.
+# Files beside recordings.
 OTHERS = (".times", ".csv", ".json", ".lock", ".html", ".new", ".txt.gz", ".wav", ".md")
-# A file that begins at most so many seconds before or after the end of the one before goes on in it.
+# A file continues the file before if it begins at most this many seconds before or after its end.
 NEAR = 2.0
 
 
 def time_of(name):
-    """The seconds since 1970 of the time in a name, or None: of this machine's zone, unless Z or the hours from UTC are after it."""
+    """Returns the time in a name as seconds since 1970, or None. It is in this machine's zone, unless Z or the hours from UTC are after it."""
     for found in NAME.finditer(name):
         *parts, zone = found.groups()
         try:
@@ -36,7 +36,7 @@ def time_of(name):
 
 
 def print_of(script, name, paths):
-    """The name, the size and the SHA-256 of files, one after the other."""
+    """Returns the name, the size and the SHA-256 of each file."""
     digest, size = hashlib.sha256(), 0
     for path in paths:
         with script.reads(path):
@@ -76,7 +76,7 @@ class Folder:
         sys.stderr.flush()
 
     def found(self):
-        """The recordings: what has no time in its name, or no bits of P25, is told and left out."""
+        """Yields the recordings. A file with no time in its name, or without bits of P25, is reported and left out."""
         guess = None
         for name in sorted(os.listdir(self.path)):
             path = os.path.join(self.path, name)
@@ -94,7 +94,7 @@ class Folder:
             yield file
 
     def guess(self, path, name, last):
-        """The form of a file: that of the last one, if it serves, which is quicker."""
+        """Returns the form of a file: that of the last file, if it fits, which is quicker."""
         if last is not None:
             again = last.again()
             again.look(chunks_of(path, 65536 * 16))
@@ -107,13 +107,13 @@ class Folder:
         return None
 
     def print(self):
-        """The name, the size and the SHA-256 of all files, one after the other."""
+        """Returns the name, the size and the SHA-256 of all files."""
         count = len(self.files)
         name = os.path.basename(os.path.abspath(self.path))
         return print_of(self.script, f"{name} ({count} file{'s' if count > 1 else ''} by time)", [file.path for file in self.files])
 
     def octets(self):
-        """The octets of the next files that go on in one another."""
+        """Yields the octets of the next files that continue one another."""
         first = self.files[self.next]
         count = 0
         while self.next < len(self.files):
@@ -127,7 +127,7 @@ class Folder:
                 yield octets
 
     def lines(self):
-        """The lines of p25 show of the next files that go on in one another."""
+        """Yields the lines of p25 show of the next files that continue one another."""
         file = self.files[self.next]
         if file.guess is None:
             self.next += 1
@@ -150,7 +150,7 @@ class Folder:
             self.script.fail(1, f"p25-split could not show '{file.path}'")
 
     def items(self):
-        """All items, with their positions from the beginning of the first file on."""
+        """Yields all items, with their positions from the beginning of the first file on."""
         end = 0
         while self.next < len(self.files):
             file = self.files[self.next]

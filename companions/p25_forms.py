@@ -1,6 +1,6 @@
-"""The forms in which receivers write a recording, turned into octets of p25 or levels of p25 soft.
+"""The forms in which receivers write a recording, converted to octets of p25 or levels of p25 soft.
 
-A converter takes octets as they come and returns what they make, by `take(octets)` and, at the end of the input, `end()`.
+A converter has two calls: `take(octets)` takes octets as they come and returns their conversion, and `end()` returns the rest at the end of the input.
 """
 
 import array
@@ -15,13 +15,13 @@ import sys
 # The symbols of the dibits 0 to 3, and the dibits of the frame sync.
 SYMBOLS = (1, 3, -1, -3)
 SYNC = tuple(map(int, "111113113311333313133333"))
-# Levels are followed over so many symbols after a sync, in blocks of so many.
+# Levels are followed over this many symbols after a sync, in blocks of this many.
 FOLLOWED, BLOCK = 864, 72
 BLANKS = b" \t\r\n\f\v"
 
 
 class Refused(Exception):
-    """An input of another form. `made` is what was made of all before."""
+    """An input of another form. `made` is the number of octets that were made before."""
 
     def __init__(self, why, made=b""):
         super().__init__(why)
@@ -29,7 +29,8 @@ class Refused(Exception):
 
 
 class Turns:
-    """What is undone in each dibit: first its bits are swapped, then its polarity; and the order of the dibits of an octet."""
+    """The turns of a form, which a converter takes back: in each dibit first the order of its bits, then its polarity; and in an octet the order of its
+    dibits."""
 
     def __init__(self, polarity=False, swap=False, lowest=False):
         self.polarity, self.swap, self.lowest = polarity, swap, lowest
@@ -41,7 +42,7 @@ class Turns:
         return self.swapped(dibit) ^ (2 if self.polarity else 0)
 
     def octets(self):
-        """The octet that each octet becomes, or None."""
+        """Returns the octet that each octet becomes, or None."""
         if not (self.polarity or self.swap or self.lowest):
             return None
         table = []
@@ -52,19 +53,19 @@ class Turns:
         return bytes(table)
 
     def level(self, level):
-        """The level that a level becomes: the nearest dibit changes, and its distance stays."""
+        """Returns the level that a level becomes: the nearest dibit changes, and its distance stays."""
         if self.swap:
             dibit = 1 if level >= 64 else 0 if level >= 0 else 2 if level >= -64 else 3
             level += 32 * (SYMBOLS[self.swapped(dibit)] - SYMBOLS[dibit])
         return max(-128, min(127, -level if self.polarity else level))
 
 
-# Two digits of so many bits each, as an octet, are one digit of twice the bits.
+# Two digits of this many bits each, as an octet, are one digit of twice the bits.
 NARROW = {bits: bytes(ord(f"{((octet >> 4) << bits | octet & (1 << bits) - 1) & 15:x}") for octet in range(256)) for bits in (1, 2)}
 
 
 def packed(digits, bits):
-    """The octets of hexadecimal digits of 1, 2 or 4 bits each."""
+    """Returns the octets of hexadecimal digits of 1, 2 or 4 bits each."""
     while True:
         digits = binascii.unhexlify(digits)
         if bits == 4:
@@ -89,7 +90,7 @@ class Whole:
         return b""
 
     def words(self):
-        """What to say at the end, or None."""
+        """Returns the message at the end, or None."""
         return None
 
 
@@ -128,7 +129,7 @@ class Text:
         if self.word:
             *lines, self.kept = (self.kept + octets).split(b"\n")
             return self.digits.take(b"".join(map(self.longest, lines)))
-        # To leave all usual signs out is quicker than to search.
+        # Leaving all usual signs out is quicker than a search.
         wrong = self.other.search(octets) if octets.translate(None, self.usual) else None
         made = self.digits.take(octets[: wrong.start() if wrong else None].translate(None, BLANKS))
         if wrong:
@@ -189,13 +190,13 @@ class Values:
 
 @functools.cache
 def table_of(polarity, swap):
-    """The levels of floats by their upper two octets, which tell them."""
+    """Returns the levels of floats by their upper two octets, which determine them."""
     turns = Turns(polarity, swap)
     return bytes(turns.level(level_of(symbol)) & 255 for (symbol,) in struct.iter_unpack("<f", b"".join(struct.pack("<I", upper << 16) for upper in range(65536))))
 
 
 def level_of(symbol):
-    """The level of a symbol."""
+    """Returns the level of a symbol."""
     if symbol != symbol:
         return 0
     return 127 if symbol > 4 else -128 if symbol < -4 else -int(0.5 - 32 * symbol) if symbol < 0 else int(0.5 + 32 * symbol)
@@ -234,7 +235,7 @@ class Symbols:
 
 
 def error_of(index):
-    """How far the level of an index, 0 to 255 for -128 to 127, is from its nearest symbol, and that symbol; 0 beyond all."""
+    """Returns the distance of the level of an index, 0 to 255 for -128 to 127, from its nearest symbol, and that symbol; 0 outside of all."""
     level = index - 128
     nearest = 3 if level > 64 else 1 if level > 0 else -1 if level > -64 else -3
     error = level - 32 * nearest
@@ -259,7 +260,7 @@ class Adapted(Symbols):
         self.mean = sum(pattern) / 24
         self.centred = [symbol - self.mean for symbol in pattern]
         self.spread = sum(it * it for it in self.centred)
-        # A sync rises and falls where its pattern does, and few other positions do.
+        # A sync rises and falls as its pattern does, and few other positions do.
         steps = (b"\1" if after > before else b"\0" if after < before else b"." for before, after in zip(pattern, pattern[1:]))
         self.steps = re.compile(b"(?s)(?=" + b"".join(steps) + b")")
         self.table = bytes(turns.level(index - 128) & 255 for index in range(256))
@@ -292,14 +293,14 @@ class Adapted(Symbols):
         return b"".join(made)
 
     def begin(self, symbols):
-        """Before the first sync the levels are as wide as in the mean."""
+        """Sets the scale for the levels before the first sync, from their mean width."""
         usual = [it for it in symbols if abs(it) < 1e30]
         mean = sum(usual) / max(1, len(usual))
         width = sum((it - mean) ** 2 for it in usual) / max(1, len(usual))
         self.scale, self.offset = ((width / 5) ** 0.5, mean) if width > 0 else (1.0, 0.0)
 
     def line(self, symbols):
-        """The scale and offset of 24 symbols, if they are a sync."""
+        """Returns the scale and offset of 24 symbols, if they are a sync."""
         total = sum(symbols)
         power = sum(map(operator.mul, symbols, symbols)) - total * total / 24
         along = sum(map(operator.mul, symbols, self.centred))
@@ -308,7 +309,7 @@ class Adapted(Symbols):
         return along / self.spread, total / 24 - self.mean * along / self.spread
 
     def move(self, scale, offset):
-        """Takes the scale and offset of a sync: a fourth of the way if they are near, else all of it."""
+        """Moves to the scale and offset of a sync: by a fourth of the way if they are near, else by all of it."""
         is_near = self.syncs and abs(scale / self.scale - 1) < 0.2 and abs(offset - self.offset) < 0.5 * self.scale
         part = 4 if is_near else 1
         self.scale += (scale - self.scale) / part
@@ -338,7 +339,7 @@ class Adapted(Symbols):
         self.symbol += len(symbols)
 
     def indices(self, symbols):
-        """The levels of symbols, from 0 on for -128."""
+        """Returns the levels of symbols, from 0 on for -128."""
         scale = 32 / self.scale
         offset = 128.5 - self.offset * scale
         try:
@@ -361,12 +362,12 @@ FORMS = ("octets", "dibits", "unpacked", *TEXTS, *WIDTHS, "numbers")
 
 
 def has_levels(form):
-    """Whether a form becomes levels for p25 soft."""
+    """Returns whether a form becomes levels for p25 soft."""
     return form in WIDTHS or form == "numbers"
 
 
 def converter(form, turns, adapts=False, is_log=False, say=lambda text: None):
-    """What turns a form into octets, or into levels."""
+    """Returns the converter of a form into octets, or into levels."""
     if form == "octets":
         return Digits(turns, 8, SAME)
     if form in ("dibits", "unpacked"):

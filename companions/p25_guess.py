@@ -13,15 +13,15 @@ from p25_forms import TEXTS, Refused, Turns, converter, has_levels
 from p25_lines import item_of
 from p25_program import program
 
-# So many octets of p25 are looked at, more if fewer settle nothing. p25 takes the most at once.
+# The numbers of octets of p25 that are examined, more if fewer do not decide. The last is the most that p25 reads at once.
 LOOKS = (65536, 1048576, 16777216)
 MOST = LOOKS[-1]
-# How many octets of a file make an octet of p25.
+# The number of octets of a file in an octet of p25.
 WIDTHS = {"octets": 1, "dibits": 4, "unpacked": 8, "digits": 5, "bits": 9, "hex": 3, "floats": 16, "doubles": 32, "shorts": 8, "signed": 4, "numbers": 32}
 TURNS = ("", "p", "s", "ps", "l", "pl", "sl", "psl")
 PACKED = {b"\x1f\x8b\x08": "gzip", b"BZh": "bzip2", b"\xfd7zXZ\0": "xz", b"\x28\xb5\x2f\xfd": "zstd", b"PK\3\4": "zip", b"7z\xbc\xaf": "7z"}
 SOUND = {b"fLaC": "FLAC", b"OggS": "Ogg", b"ID3": "MP3", b"\xff\xfb": "MP3", b".snd": "AU", b"FORM": "AIFF"}
-# What samples a file may have. Of octets both halves, as I and Q, are steady: of wider samples one half is not.
+# The types of samples that a file may have. In octets both halves, as I and Q, are steady; in wider samples one half is not.
 SAMPLES = (
     ("=B", "octets without a sign"),
     ("<h", "16-bit samples, the lowest octet first"),
@@ -39,7 +39,7 @@ class NoProgram(Exception):
 
 
 def run(command, octets):
-    """What a command of p25 makes of octets."""
+    """Returns the output of a command of p25 for octets."""
     try:
         ended = subprocess.run([program(), command], input=octets, capture_output=True)
     except OSError:
@@ -50,21 +50,21 @@ def run(command, octets):
 
 
 class Guess:
-    """A form with its turns, and what p25 finds so in the beginning of a file."""
+    """A form with its turns, and the items that p25 finds with it in the beginning of a file."""
 
     def __init__(self, form, turns="", after="", adapts=False, is_log=False):
         self.form, self.turns, self.after, self.adapts, self.is_log = form, turns, after, adapts, is_log
         self.units = self.broken = self.others = self.unread = self.sure = 0
 
     def again(self):
-        """The same guess, of another file."""
+        """Returns the same guess, for another file."""
         return Guess(self.form, self.turns, self.after, self.adapts, self.is_log)
 
     def converter(self):
         return converter(self.form, Turns(*(letter in self.turns for letter in "psl")), self.adapts, self.is_log)
 
     def octets(self, chunks):
-        """The octets of p25 of the chunks of a file, in parts that p25 takes."""
+        """Yields the octets of p25 of the chunks of a file, in parts that p25 reads."""
         made, after = self.converter(), Turns(*(letter in self.after for letter in "psl")).octets()
         parts = itertools.chain(map(made.take, chunks), (made.end() for _ in (1,)))
         for part in in_parts(parts):
@@ -72,7 +72,7 @@ class Guess:
             yield part.translate(after) if after else part
 
     def look(self, chunks):
-        """Counts what p25 finds."""
+        """Counts the items that p25 finds."""
         try:
             octets = b"".join(self.octets(chunks))[:MOST]
         except Refused:
@@ -83,7 +83,7 @@ class Guess:
             self.broken += item.kind == "broken"
             self.others += item.kind == "nounit" and item.names == "duid"
             self.unread += item.kind == "nounit"
-            # A false unit has an identifier at the correction radius.
+            # A false unit has an NID at the correction radius.
             self.sure += item.kind == "unit" and 12 * item.fix <= item.looked
 
     @property
@@ -92,23 +92,23 @@ class Guess:
 
     @property
     def is_sure(self):
-        """Whether enough of the syncs begin units, and not one that may be false."""
+        """Returns whether enough of the syncs begin units, and not only one that may be false."""
         found = self.units + self.broken + self.others
         return 4 * found >= self.syncs and (self.sure > 0 or found > 2)
 
     @property
     def is_clear(self):
-        """Whether nearly all of the syncs begin whole units."""
+        """Returns whether nearly all of the syncs begin whole units."""
         return self.sure > 2 and 10 * self.units >= 9 * self.syncs
 
     @property
     def words(self):
-        """The words of p25-octets."""
+        """Returns the arguments of p25-octets."""
         options = "".join(f" -{letter}" for letter in self.turns) + (" -w" if self.is_log else "")
         return f"{options} {self.form}{' -a' if self.adapts else ''}"
 
     def commands(self, name):
-        """The commands that make octets of p25 of a file, or None if it has them."""
+        """Returns the commands that make octets of p25 from a file, or None if it has them."""
         if self.form == "octets" and not self.turns:
             return None
         after = f" | p25-octets -{self.after} octets" if self.after else ""
@@ -121,7 +121,7 @@ class Guess:
 
 
 def in_parts(chunks):
-    """Octets in parts that p25 takes."""
+    """Yields octets in parts that p25 reads."""
     kept = b""
     for chunk in chunks:
         kept += chunk
@@ -133,7 +133,7 @@ def in_parts(chunks):
 
 
 def chunks_of(path, most=None, size=1 << 20):
-    """The octets of a file, or its first ones."""
+    """Yields the octets of a file, or its first ones."""
     with open(path, "rb") as file:
         while chunk := file.read(size if most is None else min(size, most)):
             most = None if most is None else most - len(chunk)
@@ -145,7 +145,7 @@ def is_text(octets):
 
 
 def forms_of(begin):
-    """The forms of a file that begins so, whether scale and offset are sought, and whether it is a log."""
+    """Yields the forms of a file with this beginning, whether scale and offset are sought, and whether it is a log."""
     if is_text(begin):
         for form, (_, signs, _) in TEXTS.items():
             if not re.search(b"[^%s%s]" % (signs, rb"\s"), begin) and (form != "hex" or re.search(b"[4-9A-Fa-f]", begin)):
@@ -177,7 +177,7 @@ def forms_of(begin):
 
 
 def guesses_of(begin):
-    """All guesses for a file that begins so."""
+    """Yields all guesses for a file with this beginning."""
     for form, adapts, is_log in forms_of(begin):
         for turns in ("", "p") if adapts else TURNS:
             yield Guess(form, turns, "", adapts, is_log)
@@ -188,14 +188,14 @@ def guesses_of(begin):
 
 
 def steadiness(samples):
-    """How near each sample is to the one before, in parts of its distance from the mean; None if all are the same."""
+    """Returns how near each sample is to the one before, in parts of its distance from the mean; None if all are the same."""
     mean = sum(samples) / len(samples)
     size = sum(abs(it - mean) for it in samples)
     return sum(abs(after - before) for before, after in zip(samples, samples[1:])) / size if size else None
 
 
 def text_kind(begin):
-    """What a text is."""
+    """Returns the type of a text."""
     if re.match(rb"[0-9a-f]{7,8}:? ", begin):
         return "is a dump with addresses: xxd -r makes its octets of it, if xxd wrote it"
     if re.match(rb"(unit|gap|broken|nounit|cut|call) at=[0-9]", begin):
@@ -205,7 +205,7 @@ def text_kind(begin):
 
 
 def kind_of(begin):
-    """What a file is by its first octets, or None."""
+    """Returns the type of a file by its first octets, or None."""
     for table, text in ((PACKED, "is packed with {}: unpack it first"), (SOUND, "is sound, in a file of {}: no bits are read from it")):
         for magic, name in table.items():
             if begin.startswith(magic):
@@ -219,7 +219,7 @@ def kind_of(begin):
 
 
 def likely_kind(begin):
-    """What the octets of a file look like, or None."""
+    """Returns what the octets of a file look like, or None."""
     if is_text(begin):
         return text_kind(begin)
     for letter, name in SAMPLES:
@@ -238,7 +238,7 @@ def likely_kind(begin):
 
 
 def uniform(path):
-    """The one octet of the first part of a file, and how many; or None."""
+    """Returns the one octet of the first part of a file, and how many; or None."""
     count, first = 0, None
     for chunk in chunks_of(path, 4 * MOST):
         first = chunk[:1] if first is None else first
@@ -249,7 +249,8 @@ def uniform(path):
 
 
 class Search:
-    """The guesses of a file, the best first, and why none is sure. The first clear one ends the search, unless `all` are wanted."""
+    """Returns the guesses for a file, the best first, and why none is sure. The first clear guess ends the search, unless `all` is
+    set."""
 
     def __init__(self, path, say=lambda text: None, all=False):
         self.path, self.say, self.all = path, say, all
@@ -269,7 +270,7 @@ class Search:
                 self.why = self.kind or likely_kind(self.begin) or "holds no bits of P25 Phase 1 in any form that is known"
 
     def is_none(self):
-        """Why nothing is tried, or None."""
+        """Returns why nothing is tried, or None."""
         if self.size == 0:
             return "is empty"
         if is_text(self.begin) and not list(forms_of(self.begin)):
@@ -278,7 +279,7 @@ class Search:
         return f"has the octet {found[0]:02x} alone, in its first {found[1]} octets" if found and self.size > 64 else None
 
     def try_all(self, most):
-        """Tries all guesses over so many octets of p25."""
+        """Tries all guesses over this many octets of p25."""
         self.looked, self.guesses = most, list(guesses_of(self.begin))
         for guess in self.guesses:
             guess.look(chunks_of(self.path, most * WIDTHS[guess.form]))
@@ -296,24 +297,25 @@ class Search:
 
     @property
     def is_beginning(self):
-        """Whether a part of the file was looked at."""
+        """Returns whether only a part of the file was examined."""
         return self.best is not None and self.size > self.looked * WIDTHS[self.best.form]
 
 
 def has_lines(path):
-    """Whether a file has lines of p25 show or p25 calls."""
+    """Returns whether a file has lines of p25 show or p25 calls."""
     begin = b"".join(chunks_of(path, 4096))
     return bool(re.match(rb"(unit|gap|broken|nounit|cut|call) at=[0-9]+ |nounit at=|calls=[0-9]|check units=", begin))
 
 
 def may_be_recording(path):
-    """Whether a file has no lines of p25, and may be a recording."""
+    """Returns whether a file has no lines of p25, and may be a recording."""
     begin = b"".join(chunks_of(path, 65536))
     return len(begin) >= 16 and not has_lines(path) and (not is_text(begin) or any(forms_of(begin)))
 
 
 def guessed(script, path, otherwise=None):
-    """The best guess of a file, which standard error has; if none is sure, `otherwise`, or the script ends."""
+    """Returns the best guess for a file, and prints it to standard error. If none is sure, it returns `otherwise`, or the script
+    ends."""
     if os.path.exists(path) and not os.path.isfile(path):
         script.fail(3, f"'{path}' cannot be read: it is no file")
     try:
@@ -334,19 +336,19 @@ def guessed(script, path, otherwise=None):
 
 
 def followed_of(chunks):
-    """Octets with the syncs that p25 follow finds."""
+    """Yields octets with the syncs that p25 follow finds."""
     for part in in_parts(chunks):
         yield run("follow", part)
 
 
 def split_program():
-    """The path of p25-split."""
+    """Returns the path of p25-split."""
     here = os.path.join(os.path.dirname(os.path.realpath(sys.argv[0])), "p25-split")
     return here if os.path.exists(here) else "p25-split"
 
 
 def stream(script, path, guess):
-    """A pipe with the lines of p25 show of a file."""
+    """Returns a pipe with the lines of p25 show of a file."""
     split = subprocess.Popen([split_program(), "-"], stdin=subprocess.PIPE, stdout=subprocess.PIPE)
 
     def feed():
@@ -364,7 +366,7 @@ def stream(script, path, guess):
 
 
 def take_file(script, path):
-    """Has standard input give the lines of p25 show of a file: lines, or a recording in any form."""
+    """Replaces standard input by the lines of p25 show of a file. The file has lines, or a recording in any form."""
     if os.path.isfile(path) and has_lines(path):
         source = os.open(path, os.O_RDONLY)
     else:

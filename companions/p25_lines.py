@@ -1,4 +1,4 @@
-"""The lines of p25 as values, and what they contain together: calls, who speaks in them, networks, segments.
+"""The lines of p25 as values, and their calls, talkers, networks and segments.
 
 Positions and lengths are whole numbers of bits. Nothing here decodes.
 """
@@ -8,20 +8,20 @@ import re
 BITS_A_SECOND = 9600
 # The bits of a unit, with its status symbols. A packet has the length in its line.
 LENGTHS = {"hdu": 792, "ldu1": 1728, "ldu2": 1728, "tdu": 144, "tdulc": 432}
-# The bits of a unit that are looked at: its sync, 63 bits of its identifier, and its codewords.
+# The bits of a unit that are examined: its sync, 63 bits of its NID, and its codewords.
 LOOKED_AT = {"hdu": 759, "ldu1": 383, "ldu2": 383, "tdu": 111, "tdulc": 399}
-# Of a packet these, and those of its header and of each block.
+# Of a packet these first bits, and those of its header and of each block.
 LOOKED_AT_PACKET, LOOKED_AT_BLOCK = 111, 196
-# The kinds of units by their DUIDs.
+# The types of units by their DUIDs.
 KINDS = {"0": "hdu", "3": "tdu", "5": "ldu1", "a": "ldu2", "c": "packet", "f": "tdulc"}
 PACKETS = ("confirmed", "plain", "response", "packet")
 LINK_UNITS = ("ldu1", "ldu2")
 TERMINATORS = ("tdu", "tdulc")
-# Two units with more bits between them are of two calls.
+# The most bits between two units of one call.
 PAUSE = 3456
-# Two calls with no more bits between them may be parts of one: five seconds.
+# The most bits between two calls that may be parts of one: five seconds.
 NEAR = 48000
-# Reception is good if at most so many % of the voice units are broken or lost, fair up to the second, and else poor.
+# Reception is good if at most the first % of the voice units are broken or lost, fair up to the second, and else poor.
 GOOD, FAIR = 1, 5
 ALGORITHMS = {"80": "clear", "81": "DES-OFB", "83": "3DES", "84": "AES-256", "85": "AES-128", "9f": "DES-XL", "aa": "ADP (RC4)"}
 # The formats of link control, by the lowest six bits.
@@ -56,7 +56,7 @@ FORMATS = {
     0x29: "network status",
     0x2A: "conventional fallback",
 }
-# Those of manufacturers, whose fields are not read.
+# The formats of manufacturers, whose fields are not read.
 MAKERS = {
     **{("90", code): "talker alias" for code in (0x15, 0x17)},
     **{("a4", code): "talker alias" for code in (0x32, 0x33, 0x34, 0x35)},
@@ -66,7 +66,7 @@ MAKERS = {
 
 
 class Item:
-    """An item of p25 show. `kind` is unit, broken, nounit, gap or cut; `unit` is the kind of a unit, or None."""
+    """An item of p25 show. `kind` is unit, broken, nounit, gap or cut; `unit` is the type of a unit, or None."""
 
     __slots__ = ("kind", "at", "bits", "fix", "unit", "nac", "lc", "alg", "key", "group", "looked", "names")
 
@@ -79,11 +79,11 @@ class Item:
 
     @property
     def end(self):
-        """The position after the last bit."""
+        """Returns the position after the last bit."""
         return self.at + self.bits
 
 
-# The keys of each kind of unit after its access code.
+# The keys of each type of unit after its NAC.
 HEX = "[0-9a-f]"
 KEYS = {
     "hdu": f" mi={HEX}{{18}} mfid={HEX}{{2}} algid=(?P<alg>{HEX}{{2}}) kid=(?P<key>{HEX}{{4}}) tgid=(?P<group>{HEX}{{4}})",
@@ -103,7 +103,7 @@ NOUNIT = re.compile("nounit at=([0-9]+) field=([a-z_]+)")
 
 
 def unit_of(line):
-    """The item of a line of a whole unit, or None."""
+    """Returns the item of a line of a whole unit, or None."""
     found = UNIT.match(line)
     rest = REST[found[4]].fullmatch(line, found.end()) if found else None
     if not rest:
@@ -124,7 +124,7 @@ def unit_of(line):
 
 
 def item_of(line):
-    """The item of a line of p25 show or check, or None."""
+    """Returns the item of a line of p25 show or check, or None."""
     first = line[:1]
     if first == "u":
         return unit_of(line)
@@ -147,7 +147,7 @@ def item_of(line):
 
 
 class Talk:
-    """Who speaks to whom in a link control word: numbers, or None."""
+    """The talker and the called of a link control word: numbers, or None."""
 
     __slots__ = ("lc", "format", "maker", "radio", "group", "called", "emergency")
 
@@ -157,7 +157,7 @@ class Talk:
         if lc is None:
             return
         self.format = lc[:2]
-        # The second octet is the manufacturer's, but for a bit of the first one.
+        # The second octet is the manufacturer's, unless a bit of the first one is set.
         if not int(self.format, 16) & 0x40 and lc[2:4] not in ("00", "01"):
             self.maker = lc[2:4]
         if self.format == "00":
@@ -171,20 +171,20 @@ class Talk:
 
     @property
     def who(self):
-        """The radio and to whom it speaks, or None."""
+        """Returns the radio and the called, or None."""
         return None if self.radio is None else (self.radio, self.group, self.called)
 
     @property
     def to(self):
-        """To whom: group or radio, and its number, or None."""
+        """Returns the called: group or radio, and its number, or None."""
         return ("group", self.group) if self.group is not None else ("radio", self.called) if self.called is not None else None
 
     def same(self, other):
-        """Whether the two may be the same radio and called one, as far as both are told."""
+        """Returns whether the two may have the same radio and called, as far as both are known."""
         return self.radio is None or other.radio is None or self.who == other.who
 
     def format_name(self):
-        """The words for a format that names no radio."""
+        """Returns the words for a format that names no radio."""
         code = int(self.format, 16)
         name = "protected" if code & 0x80 else MAKERS.get((self.maker, code & 0x3F)) if self.maker else FORMATS.get(code & 0x3F)
         text = f"link control of format {self.format}"
@@ -192,7 +192,7 @@ class Talk:
 
 
 class Call:
-    """A run of voice units, or a part of one in which one radio speaks. What p25 show alone has is None in one of p25 calls.
+    """A run of voice units, or a part of one in which one radio speaks. A value that only p25 show has is None in a run of p25 calls.
 
     `base` is the position at which its segment begins; `at` counts from there.
     """
@@ -206,14 +206,14 @@ class Call:
         self.at = self.end_at = at
         self.nac, self.base = nac, base
         self.entry, self.end = "late", "open"
-        # Voice units whose identifier was read, those that were read whole, and units of any kind that were not.
+        # Voice units whose NID decodes, those that decode whole, and units of any type that do not.
         self.links = self.voice = self.broken = self.units = 0
         self.lc = self.alg = self.group = None
         self.looked = self.wrong = 0
-        self.in_step = True    # whether each voice unit lies where its kind does after the header
-        self.votes, self.ciphers = {}, {}    # how often each link control was read, and each algorithm with its key
+        self.in_step = True    # whether each voice unit is at a position of its type after the header
+        self.votes, self.ciphers = {}, {}    # how often each link control decodes, and each algorithm with its key
         self.goes_on = None    # the call of which this one may be a part
-        self.heard = [] if keeps else None    # position, end, bits looked at and bit errors of each whole unit
+        self.heard = [] if keeps else None    # position, end, bits examined and bit errors of each whole unit
 
     def add(self, item):
         """Takes a unit of the call."""
@@ -246,24 +246,23 @@ class Call:
 
     @property
     def bits(self):
-        """From its first unit to the end of its last one."""
+        """Returns the length from its first unit to the end of its last one."""
         return self.end_at - self.at
 
     @property
     def begin(self):
-        """Its first bit, counted from the first segment."""
+        """Returns its first bit, counted from the first segment."""
         return self.base + self.at
 
     @property
     def cipher(self):
-        """The algorithm and the key of most units, or None."""
+        """Returns the algorithm and the key of most units, or None."""
         return max(self.ciphers, key=self.ciphers.get) if self.ciphers else (self.alg, None)
 
     def sent(self):
-        """How many voice units its length has capacity for, at least those that were heard, and whether this is exact.
+        """Returns how many voice units fit into its length, at least those that were heard, and whether this is exact.
 
-        It is exact if both ends were heard, whole voice units fill what is between them, each where its kind is in turn, and no word
-        has another talk or cipher.
+        It is exact if both ends were heard, whole voice units fill the bits between them in turn, and no word has another talk or cipher.
         """
         bits = self.bits
         if self.entry == "header":
@@ -275,7 +274,7 @@ class Call:
         return max(sent, self.links), not self.doubts()
 
     def doubts(self):
-        """Why the number of voice units that were sent is not exact."""
+        """Returns why the number of voice units that were sent is not exact."""
         if self.entry == "late" or self.end == "open":
             return ["beginning not heard"] * (self.entry == "late") + ["end not heard"] * (self.end == "open")
         if Told(self).others:
@@ -284,7 +283,7 @@ class Call:
         return [] if is_one else ["perhaps two calls"]
 
     def line(self, more=False):
-        """The line that p25 calls prints of it; with `more` what p25 show alone has is after that."""
+        """Returns the line that p25 calls prints for it; with `more` the values that only p25 show has come after that."""
         text = (
             f"call at={self.at} bits={self.bits} nac={self.nac} entry={self.entry} end={self.end} links={self.links}"
             f" broken={self.broken} lc={self.lc or 'none'} alg={self.alg or 'none'}"
@@ -302,7 +301,7 @@ CALL = re.compile(
 
 
 def call_of(line):
-    """The call of a line of p25 calls, or of p25-calls -v, or None."""
+    """Returns the call of a line of p25 calls, or of p25-calls -v, or None."""
     found = CALL.fullmatch(line)
     if not found:
         return None
@@ -323,10 +322,10 @@ def call_of(line):
 
 
 class Told:
-    """Who speaks in a call.
+    """The talker of a call.
 
-    `talk` is that of most words that name a radio, `by` how many, of `total` words. `ties` are talks of as many words, and `also` those of
-    two words or more, or emergencies. `others` has each other talk that a word or the header has, with its number of words.
+    `talk` is the talk of most words that name a radio, and `by` the number of these, of `total` words. `ties` are talks of as many words, and `also` those of
+    two words or more, or emergencies. `others` has each other talk of a word or of the header, with its number of words.
     """
 
     def __init__(self, call):
@@ -341,7 +340,7 @@ class Told:
             first = talks.setdefault(talk.who, talk)
             first.emergency = first.emergency or talk.emergency
         most = max(counts.values(), default=0)
-        # Of as many words an emergency comes first.
+        # Among talks of as many words an emergency comes first.
         best = sorted((who for who in counts if counts[who] == most), key=lambda who: not talks[who].emergency)
         self.by_header = not best and call.group is not None
         if best:
@@ -360,17 +359,17 @@ class Told:
 
     @property
     def talks(self):
-        """All that the line of the call names."""
+        """Returns all talks that the line of the call names."""
         return [self.talk, *self.ties, *self.also]
 
     @property
     def emergency(self):
-        """Whether one of them is an emergency; None if no radio is told."""
+        """Returns whether one of them is an emergency; None if no radio is known."""
         return None if self.talk.radio is None else any(talk.emergency for talk in self.talks)
 
     @property
     def certainty(self):
-        """How the talker is told: by words, once, a tie, the header, or None."""
+        """Returns the source of the talker: words, once, a tie, the header, or None."""
         if self.by == 0:
             return "header" if self.by_header else None
         return "tie" if self.ties else "once" if self.by == 1 else "words"
@@ -379,24 +378,22 @@ class Told:
 class Calls:
     """The calls among items, as p25 calls groups them, or with `by_talker` their parts.
 
-    A run of units is divided by a packet, another access code, a terminator before, a header after, more than 3,456 bits between two units,
-    and positions that begin anew: those of another segment, which go on from the end of the one before. `pauses` closes a run too once
-    no later unit can be its own.
+    A run of units is divided by a packet, another NAC, a terminator before, a header after, more than 3,456 bits between two units, and positions that begin
+    anew. These are of another segment, and continue from the end of the one before. `pauses` closes a run too once no later unit can belong to it.
 
-    If a terminator and a header were lost, two radios speak in one run. With `by_talker` a talk begins a part at the first unit with it, if
-    two words of the run have it, an emergency, or the group of the header. Until then its units wait. An emergency makes a call of units
-    without voice too.
+    If a terminator and a header were lost, two radios speak in one run. With `by_talker` a talk begins a part at its first unit, if two words of the run have
+    it, or an emergency, or the group of the header. Until then its units wait. An emergency makes a call even from units without voice.
     """
 
     def __init__(self, pauses=False, by_talker=False, keeps=False):
         self.pauses, self.by_talker, self.keeps = pauses, by_talker, keeps
         self.run = None    # the open run, or its open part
-        self.base = self.place = 0    # where the segment begins, and the end of the last item in it
+        self.base = self.place = 0    # the begin of the segment, and the end of the last item in it
         self.segments = 0
         self.forget()
 
     def forget(self):
-        """Forgets what is known of the run."""
+        """Forgets the state of the run."""
         self.end_at = self.links = 0
         self.has_emergency = False
         self.counts, self.sure = {}, set()    # the words of each talk in the run, and the talks that are sure
@@ -408,7 +405,7 @@ class Calls:
         self.run = Call(at, nac, self.base, self.keeps)
 
     def settle(self):
-        """Gives the units that wait to the open part."""
+        """Adds the units that wait to the open part."""
         for item in self.waiting:
             self.run.add(item)
         self.waiting, self.other = [], None
@@ -464,7 +461,7 @@ class Calls:
         if self.run is not None:
             far = item.at > self.end_at + PAUSE or is_anew
             if item.nac is None:
-                # A unit that is not read ends no call, as long as the next one may be its own.
+                # A unit that does not decode ends no call, as long as the next unit may belong to it.
                 is_closed = is_anew or self.pauses and (far or item.kind == "gap" and item.end > self.end_at + PAUSE)
             else:
                 is_closed = far or item.unit in PACKETS or item.nac != self.run.nac or item.unit == "hdu"
@@ -483,15 +480,15 @@ class Calls:
         return [call for call in closed if call is not None]
 
 
-# The sync, and the generator of the code of the identifier.
+# The sync, and the generator of the code of the NID.
 SYNC, GENERATOR = 0x5575F5FF77FF, 0o6331141367235453
 DUIDS = {**{unit: int(duid, 16) for duid, unit in KINDS.items()}, **dict.fromkeys(PACKETS, 0xC)}
-# The correction radius of a sync and of an identifier.
+# The correction radius of a sync and of an NID.
 SYNC_RADIUS, NID_RADIUS = 4, 11
 
 
 def front_of(nac, unit):
-    """The 111 bits of the sync and the identifier of a unit."""
+    """Returns the 111 bits of the sync and the NID of a unit."""
     word = rest = (int(nac, 16) << 4 | DUIDS[unit]) << 47
     for place in range(62, 46, -1):
         if rest >> place & 1:
@@ -500,14 +497,14 @@ def front_of(nac, unit):
 
 
 def front_bits(octets, at):
-    """The 111 bits of a front at a position, without the status symbol after the 22nd bit of its identifier."""
+    """Returns the 111 bits of sync and NID at a position, without the status symbol after the 22nd bit of the NID."""
     first, last = at // 8, (at + 113 + 7) // 8
     bits = int.from_bytes(octets[first:last], "big") >> (8 * last - at - 113)
     return (bits >> 43 & (1 << 70) - 1) << 41 | bits & (1 << 41) - 1
 
 
 def front_errors(octets, item):
-    """The bit errors of the sync and of the identifier of a unit in a recording, or None if it ends before."""
+    """Returns the bit errors of the sync and of the NID of a unit in a recording, or None if the recording ends before."""
     if item.at + 113 > 8 * len(octets):
         return None
     wrong = front_bits(octets, item.at) ^ front_of(item.nac, item.unit)
@@ -515,17 +512,17 @@ def front_errors(octets, item):
 
 
 class Hidden:
-    """The fronts of a recording that p25 does not find, since too many of their bits are wrong.
+    """The syncs with NID of a recording that p25 does not find, because they have too many bit errors.
 
-    Each is that of a unit of a network with a whole unit before, but for at most 12 bits of its sync and 26 of its 111 bits. At a BER of
-    15 % so are 97 % of the fronts, at 20 % 77 %, and in an hour of noise one position for each network.
+    Each is that of a unit of a network with a whole unit before, with at most 12 bit errors in the sync and 26 in the 111 bits. At a BER of 15 % this finds
+    97 % of them, at 20 % 77 %, and in an hour of noise one position for each network.
     """
 
     def __init__(self, octets):
-        self.octets, self.words, self.edge = octets, {}, 0    # the fronts of each network; what is before the edge was looked at
+        self.octets, self.words, self.edge = octets, {}, 0    # the sync and NID of each network; the bits before the edge were examined
 
     def take(self, item):
-        """Yields the position and the bit errors of those up to the next unit, or within the next item."""
+        """Yields position and bit errors of those up to the next unit, or within the next item."""
         if item.kind == "unit" and item.nac not in self.words:
             self.words[item.nac] = [front_of(item.nac, unit) for unit in KINDS.values()]
         end = item.end if item.nac is None else item.at
@@ -536,7 +533,7 @@ class Hidden:
             self.edge = item.end
 
     def look(self, begin, end):
-        """Looks at all positions of some bits."""
+        """Examines all positions of some bits."""
         count, last = end - begin - 112, -(-end // 8)
         if count <= 0:
             return
@@ -559,7 +556,7 @@ class Hidden:
 
 
 class Network:
-    """What is counted of the units of a network."""
+    """The counts of the units of a network."""
 
     def __init__(self, nac):
         self.nac = nac
@@ -578,7 +575,7 @@ class Recording:
 
     @property
     def end_at(self):
-        """The end of the last item, counted from the first segment."""
+        """Returns the end of the last item, counted from the first segment."""
         return self.calls.base + self.calls.place
 
     def take(self, item):
@@ -614,7 +611,7 @@ class Parts:
         self.last = {}
 
     def mark(self, call):
-        """Sets `goes_on` if the last call of its network may go on in it."""
+        """Sets `goes_on` if it may continue the last call of its network."""
         before = self.last.get(call.nac)
         if (
             before is not None
@@ -629,13 +626,13 @@ class Parts:
 
 
 class Chosen:
-    """The calls that are asked for."""
+    """The choice of calls by options."""
 
     def __init__(self, group=None, radio=None, emergency=False):
         self.group, self.radio, self.emergency = group, radio, emergency
 
     def has(self, call):
-        """Whether one of the talks in a call is asked for."""
+        """Returns whether one of the talks in a call is chosen."""
         return any(
             (self.group is None or talk.group == self.group)
             and (self.radio is None or self.radio in (talk.radio, talk.called))
@@ -645,22 +642,22 @@ class Chosen:
 
 
 def grade_of(missed, sent):
-    """The word for a reception in which so many voice units were broken or lost."""
+    """Returns the word for a reception, given how many voice units were broken or lost."""
     share = 100 * missed / sent
     return "good" if share <= GOOD else "fair" if share <= FAIR else "poor"
 
 
 def rate_of(wrong, looked):
-    """The bit error rate in %, to four digits after the point, or None."""
+    """Returns the bit error rate in %, to four digits after the point, or None."""
     return round(100 * wrong / looked, 4) if looked else None
 
 
 def thousandths(bits):
-    """Bits as ms, to the nearest."""
+    """Returns bits as ms, to the nearest."""
     return (bits * 2000 + BITS_A_SECOND) // (2 * BITS_A_SECOND)
 
 
 def seconds(bits):
-    """Bits as seconds with three digits after the point."""
+    """Returns bits as seconds with three digits after the point."""
     whole, part = divmod(thousandths(bits), 1000)
     return f"{whole}.{part:03d}"

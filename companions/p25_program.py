@@ -1,4 +1,4 @@
-"""How a helper script begins, reads, writes and ends: options, names, the time, lines, tables, exit statuses."""
+"""The parts that helper scripts share: options, input and output, names, the time, lines, tables, exit statuses."""
 
 import argparse
 import bisect
@@ -22,7 +22,7 @@ wanted; 2 a word of the command is refused; 3 the input, or a file that an
 option names, cannot be read; 4 the output cannot be written; 130 and 143 an
 interrupt and a wish to end. A line on standard error says why it is not 0.
 """
-# What the help of each script has that takes these options.
+# The help text of each script with these options.
 TABLES = """\
 -c prints CSV with a first line of names, and -j a JSON object for each line.
 What is not known is empty, or null. The access code of a call is a text, and
@@ -45,12 +45,12 @@ CHOICE = """\
 --group, --radio (it speaks, or is called) and --emergency choose calls; a name
 of NAMES serves as a number does.
 """
-# A pipe in which nothing came for so many seconds was silent.
+# A pipe was silent if nothing came in it for this many seconds.
 SILENCE = 1.0
 
 
 def one_line(text):
-    """A text without signs that would end or change a line."""
+    """Returns a text without signs that would end or change a line."""
     return "".join(sign if sign.isprintable() else " " for sign in text)
 
 
@@ -60,7 +60,7 @@ class Clock:
     def __init__(self, word=None):
         self.begin = self.zone = None
         self.is_live = word == "now"
-        # From a bit on the silence so far, in seconds.
+        # Bits, and the silence so far at each of them, in seconds.
         self.places, self.silences = [0], [0.0]
         self.started = None
         self.base = self.last = 0
@@ -69,7 +69,7 @@ class Clock:
         # Python before 3.11 does not read a Z.
         text, _, zone = re.sub("[zZ]$", "+00:00", word).replace("[", " ").rstrip("]").partition(" ")
         if re.match("[0-9]{2}:", zone):
-            # A blank in place of the T.
+            # A blank is allowed in place of the T.
             hours, _, zone = zone.partition(" ")
             text = f"{text}T{hours}"
         if not re.match("[0-9]{4}-[0-9]{2}-[0-9]{2}T[0-9]{2}:[0-9]{2}", text):
@@ -81,7 +81,7 @@ class Clock:
             raise ValueError(word)
 
     def local(self, begin, zone):
-        """A time by the name of its zone, or local for that of this machine."""
+        """Returns a time in the zone of this name, or, for local, in that of this machine."""
         if begin.tzinfo is not None:
             raise ValueError(zone)
         if zone == "local":
@@ -91,7 +91,7 @@ class Clock:
         except (OSError, zoneinfo.ZoneInfoNotFoundError):
             raise ValueError(zone) from None
         begin = begin.replace(tzinfo=self.zone)
-        # A time that the change to summer time leaves out does not come back.
+        # A time that the change to summer time leaves out does not convert back to itself.
         again = begin.astimezone(datetime.timezone.utc).astimezone(self.zone)
         if again.replace(tzinfo=None) != begin.replace(tzinfo=None):
             raise ValueError(zone)
@@ -115,33 +115,33 @@ class Clock:
             self.silences.append(self.silences[-1] + late)
 
     def silence(self, bits):
-        """The seconds of silence before a bit."""
+        """Returns the seconds of silence before a bit."""
         return self.silences[bisect.bisect_right(self.places, bits) - 1]
 
     def wall(self, bits):
-        """A bit as one of a recording in which nothing was left out."""
+        """Returns the position of a bit in a recording in which nothing was left out."""
         return bits + round(BITS_A_SECOND * self.silence(bits))
 
     def shown(self, bits):
-        """The time of a bit of a recording in which nothing was left out."""
+        """Returns the time of a bit of a recording in which nothing was left out."""
         after = datetime.timedelta(milliseconds=thousandths(bits))
         if self.zone is None:
             return self.begin + after
         return (self.begin.astimezone(datetime.timezone.utc) + after).astimezone(self.zone)
 
     def zone_text(self):
-        """The zone of the times, as UTC or UTC+01:00."""
+        """Returns the zone of the times, as UTC or UTC+01:00."""
         begin = self.begin or datetime.datetime.now().astimezone()
         return "UTC" if not begin.utcoffset() else begin.strftime("UTC%z")[:6] + ":" + begin.strftime("%z")[3:5]
 
     def at(self, bits):
-        """The time of a bit, to the nearest ms, as ISO 8601 with its zone, or None."""
+        """Returns the time of a bit, to the nearest ms, as ISO 8601 with its zone, or None."""
         if self.begin is None:
             return None
         return self.shown(self.wall(bits)).isoformat(timespec="milliseconds").replace("+00:00", "Z")
 
 
-# The columns of a list of talk groups or radios of scanner programs: of the number, and of its name, the best first.
+# The columns of lists of talk groups or radios of scanner programs, for the number and for its name, the best first.
 NUMBERS = ("decimal", "dec", "tgid", "talkgroup id", "talkgroup", "radio id", "rid", "unit id")
 TITLES = ("alpha tag", "alphatag", "alias", "name of group", "name", "description")
 
@@ -190,16 +190,16 @@ class Names:
         raise ValueError(f"its row '{','.join(row)}' is none as group,100,Fire dispatch or radio,4097,Engine 3")
 
     def of(self, kind, nac, number):
-        """The name of a group or radio in a network, or None."""
+        """Returns the name of a group or radio in a network, or None."""
         table = self.tables[kind]
         return table.get((nac, number)) or table.get((None, number))
 
     def scope(self, kind, nac, number):
-        """The network of the name of a group or radio, or None if it is one for all."""
+        """Returns the network of the name of a group or radio, or None if the name is for all."""
         return nac if (nac, number) in self.tables[kind] else None
 
     def number(self, kind, word):
-        """The number of a word: a decimal number, or a name of a file."""
+        """Returns the number of a word: a decimal number, or a name in a file."""
         if re.fullmatch("[0-9]{1,8}", word):
             return int(word)
         for (_, number), name in self.tables[kind].items():
@@ -208,7 +208,7 @@ class Names:
         raise ValueError(word)
 
     def who(self, talk, nac):
-        """Who speaks to whom: numbers with their names."""
+        """Returns talker and called: numbers with their names."""
 
         def named(kind, number):
             name = self.of(kind, nac, number)
@@ -224,7 +224,7 @@ class Names:
 
 
 def cipher_text(cipher, unknown="not known"):
-    """An algorithm and its key in words."""
+    """Returns an algorithm and its key in words."""
     alg, key = cipher
     return unknown if alg is None else ALGORITHMS.get(alg, f"algorithm {alg}") + (f", key {key}" if key and alg != "80" else "")
 
@@ -234,7 +234,7 @@ TALKERS = (
     "begin seconds nac entry end format manufacturer radio group called emergency algorithm sent heard lost broken"
     " time network sent_is looked wrong rate goes_on radio_name group_name called_name votes others key talker_is also"
 ).split()
-# Those of p25-calls, the keys of the line of a call first.
+# The columns of p25-calls, the keys of the line of a call first.
 CALLS = (
     "at bits nac entry end links broken lc alg begin seconds time network format manufacturer radio group called emergency"
     " algorithm sent sent_is lost looked wrong rate goes_on key talker_is also"
@@ -242,7 +242,7 @@ CALLS = (
 
 
 def values_of(call, clock, names):
-    """The values of a call by the names of their columns; None for what is not known."""
+    """Returns the values of a call by the names of their columns; None for an unknown value."""
     who = Told(call)
     talk = who.talk
     sent, is_exact = call.sent()
@@ -288,7 +288,7 @@ def values_of(call, clock, names):
 
 
 class Number:
-    """A number that is written with the digits of a text."""
+    """A number that is printed with the digits of a text."""
 
     __slots__ = ("text",)
 
@@ -297,13 +297,13 @@ class Number:
 
 
 def json_line(values):
-    """Names and values as one JSON object."""
+    """Returns names and values as one JSON object."""
     texts = (value.text if isinstance(value, Number) else json.dumps(value, ensure_ascii=False) for value in values.values())
     return "{" + ",".join(f"{json.dumps(name)}:{text}" for name, text in zip(values, texts)) + "}"
 
 
 def csv_cell(value):
-    """A value as a cell of CSV."""
+    """Returns a value as a cell of CSV."""
     if value is None:
         return ""
     if isinstance(value, Number):
@@ -314,7 +314,7 @@ def csv_cell(value):
         return f"{value:.4f}"
     text = str(value)
     if isinstance(value, str):
-        # A spreadsheet takes a text that begins so for a formula.
+        # A spreadsheet takes a text with such a beginning for a formula.
         if text[:1] in ("=", "+", "-", "@", "\t"):
             text = "'" + text
         if any(sign in text for sign in ',"\n\r'):
@@ -323,12 +323,12 @@ def csv_cell(value):
 
 
 def csv_line(values):
-    """Values as a line of CSV."""
+    """Returns values as a line of CSV."""
     return ",".join(csv_cell(value) for value in values)
 
 
 def beside(*names):
-    """The path of a file of the checkout or of an installation."""
+    """Returns the path of a file of the checkout or of an installation."""
     for folder in (".", "..", "../share/p25"):
         path = os.path.join(sys.path[0], folder, *names)
         if os.path.exists(path):
@@ -337,7 +337,7 @@ def beside(*names):
 
 
 def release():
-    """The release."""
+    """Returns the release."""
     path = beside("RELEASE")
     if path is None:
         return "p25, of a release that is not known"
@@ -351,12 +351,12 @@ class Script(argparse.ArgumentParser):
     def __init__(self, name, text):
         super().__init__(prog=name, add_help=False, allow_abbrev=False)
         self.name, self.text, self.shared = name, text, ""
-        self.caught = 0    # the signal that asked for an end
-        self.number = 0    # the line that was read last
+        self.caught = 0    # the signal that ends the script
+        self.number = 0    # the last line that was read
         if sys.stdout is None:
             self.fail(4, "the output cannot be written: it is closed")
         sys.stdout.reconfigure(encoding="utf-8", errors="backslashreplace", newline="\n")
-        # A reader that leaves early, as head, ends a script without a word.
+        # A reader that ends early, as head, ends a script without a message.
         signal.signal(signal.SIGPIPE, signal.SIG_DFL)
         self.add_argument("-h", "--help", action="store_true")
         self.add_argument("--version", action="store_true")
@@ -390,11 +390,11 @@ class Script(argparse.ArgumentParser):
         self.add_argument("--emergency", action="store_true")
 
     def error(self, message):
-        """Refuses the words of the command."""
+        """Refuses the arguments of the command."""
         self.fail(2, f"{message}: {self.name} -h tells more")
 
     def options(self, files=0):
-        """The options, of which at most so many `files` have no dash."""
+        """Returns the options; at most `files` arguments have no dash."""
         words = sys.argv[1:]
         place = words.index("--") if "--" in words else len(words)
         words, after = words[:place], words[place + 1 :]
@@ -416,7 +416,7 @@ class Script(argparse.ArgumentParser):
         return options
 
     def clock(self, options):
-        """The clock that --begin asks for."""
+        """Returns the clock of --begin."""
         try:
             return Clock(options.begin)
         except ValueError:
@@ -424,7 +424,7 @@ class Script(argparse.ArgumentParser):
             self.fail(2, f"'{options.begin}' is no time with its zone, as {zones}")
 
     def names(self, options):
-        """The names of the files of -a."""
+        """Returns the names in the files of -a."""
         names = Names()
         for word in options.names:
             nac, path = re.fullmatch("(?:[$]?([0-9A-Fa-f]{3})=)?(.*)", word, re.DOTALL).groups()
@@ -436,7 +436,7 @@ class Script(argparse.ArgumentParser):
         return names
 
     def chosen(self, options, names):
-        """The calls that are asked for."""
+        """Returns the choice of calls by the options."""
         numbers = {"group": options.group, "radio": options.radio}
         for kind, word in numbers.items():
             if word is not None:
@@ -449,7 +449,7 @@ class Script(argparse.ArgumentParser):
     # -- Input and output.
 
     def fail(self, status, why):
-        """Says why nothing goes on, and ends."""
+        """Prints why the script cannot continue, and ends."""
         try:
             if sys.stdout is not None:
                 sys.stdout.flush()
@@ -471,11 +471,11 @@ class Script(argparse.ArgumentParser):
             self.fail(4, f"the output cannot be written: {fault.strerror}")
 
     def out(self, line):
-        """Prints a line, at the latest once all input that came was read."""
+        """Prints a line, at the latest when all input so far was read."""
         self.write(line + "\n")
 
     def flush(self, octets=b""):
-        """Writes what was printed, and octets."""
+        """Writes the printed lines, and octets."""
         try:
             sys.stdout.flush()
             sys.stdout.buffer.write(octets)
@@ -501,7 +501,7 @@ class Script(argparse.ArgumentParser):
             self.fail(3, f"'{path}' cannot be read: {fault.strerror}")
 
     def catch(self):
-        """Has an interrupt and SIGTERM set `caught`, and returns what can be read from then on."""
+        """Lets an interrupt and SIGTERM set `caught`, and returns a descriptor that can be read from then on."""
         wake, waked = os.pipe()
         os.set_blocking(waked, False)
 
@@ -525,13 +525,13 @@ class Script(argparse.ArgumentParser):
             self.fail(3, f"the input cannot be read: {fault.strerror}")
 
     def octets(self, count=262144):
-        """The octets of standard input as they come."""
+        """Yields the octets of standard input as they come."""
         self.wants_input()
         while chunk := self.read(0, count):
             yield chunk
 
     def lines(self, arrived=lambda lines: None):
-        """The lines of standard input as they come; `arrived` is given those that came at once.
+        """Yields the lines of standard input as they come; `arrived` gets those that came together.
 
         An interrupt or SIGTERM ends them, once nothing comes for half a second.
         """
@@ -566,13 +566,13 @@ class Script(argparse.ArgumentParser):
             yield line
 
     def end(self):
-        """Ends with all written."""
+        """Writes all output, and ends."""
         self.flush()
         os._exit(128 + self.caught if self.caught else 0)
 
 
 def arrivals(clock, parse):
-    """What `Script.lines` calls with lines that came at once, for the clock. `parse` reads a line."""
+    """Returns the function that `Script.lines` calls with lines that came together, for the clock. `parse` reads a line."""
 
     def arrived(lines):
         spans = [(it.at, it.at + it.bits) for it in map(parse, (lines[0], lines[-1])) if it is not None]
@@ -583,7 +583,7 @@ def arrivals(clock, parse):
 
 
 def program():
-    """The path of p25."""
+    """Returns the path of p25."""
     here = os.path.dirname(os.path.realpath(sys.argv[0]))
     for path in (os.path.join(sys.path[0], "p25"), os.path.join(here, "..", "p25"), os.path.join(here, "p25")):
         if os.access(path, os.X_OK) and os.path.isfile(path):

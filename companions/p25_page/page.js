@@ -3,7 +3,7 @@
   const data = JSON.parse(document.getElementById("data").textContent);
   const at = (id) => document.getElementById(id);
 
-  // Makes an element with attributes, and texts or elements in it: of the page, or of a drawing.
+  // Fills an element of the page or of a drawing with attributes, and with texts or elements.
   const filled = (element, attributes = {}, ...inside) => {
     for (const [key, value] of Object.entries(attributes)) element.setAttribute(key, value);
     element.append(...inside);
@@ -282,7 +282,7 @@
     plot(narrow ? "Bit errors" : "Bit errors, of the bits checked in whole units", rateTop, rateHeight, "rate", ([looked, wrong]) => (looked ? (100 * wrong) / looked : null));
     plot(narrow ? "Broken or lost" : "Broken or lost, of the time within calls", lossTop, lossHeight, "loss", ([, , inCalls, missing]) => (inCalls ? (100 * missing) / inCalls : null));
 
-    // What is dragged over is shown larger.
+    // The part that the pointer is dragged over is shown larger.
     const place = (event) => {
       const box = svg.getBoundingClientRect();
       return Math.min(right, Math.max(left, ((event.clientX - box.left) * width) / box.width));
@@ -349,7 +349,7 @@
     at("time").hidden = true;
   }
 
-  // On paper are up to 2,000 rows, a chart as wide as it, and the words.
+  // Paper shows up to 2,000 rows, a chart as wide as the paper, and the words.
   const words = document.querySelector("details");
   let kept = null;
   addEventListener("beforeprint", () => {

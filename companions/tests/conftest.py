@@ -1,4 +1,4 @@
-"""What the tests of the helper scripts share. A shell runs the commands of a test in a folder of its own, with links to the samples."""
+"""The parts that the tests of the helper scripts share. A shell runs the commands of a test in a folder of its own, with links to the samples."""
 
 import itertools
 import os
@@ -36,7 +36,7 @@ def tdulc(lc=LC, nac="293"):
     return f"tdulc nac={nac} lc={lc}"
 
 
-# A unit of each kind, packets with none, one and several blocks.
+# A unit of each type, packets with none, one and several blocks.
 UNITS = [
     "hdu nac=293 mi=0123456789abcdef01 mfid=00 algid=84 kid=1234 tgid=0064",
     f"ldu1 nac=293 lc={LC} lsd=1234 voice={ZEROS}",
@@ -75,7 +75,7 @@ class Room:
         return ended.returncode, ended.stdout, ended.stderr.decode()
 
     def octets(self, command, given=b""):
-        """The output of a command that succeeds without a word."""
+        """Returns the output of a command that succeeds without a message."""
         status, out, error = self.run(command, given)
         assert (status, error) == (0, ""), command
         return out
@@ -87,7 +87,7 @@ class Room:
         return self.text(command, given).splitlines()
 
     def build(self, *units, status=1):
-        """The recording of some units, of which a number is so many zero octets."""
+        """Returns the recording of some units; a number is a number of zero octets."""
         parts = []
         for is_zeros, group in itertools.groupby(units, lambda unit: isinstance(unit, int)):
             parts.append(bytes(sum(group)) if is_zeros else self.octets(f"p25 build {status}", "".join(f"{unit}\n" for unit in group)))
@@ -101,7 +101,7 @@ def room(tmp_path):
 
 @pytest.fixture(scope="session")
 def mixed(tmp_path_factory):
-    """A recording with units of all kinds, and its lines."""
+    """Returns a recording with units of all types, and its lines."""
     room = Room(tmp_path_factory.mktemp("mixed"))
     octets = room.build(*UNITS) + b"".join(SAMPLES[name].read_bytes() for name in ("traffic.bin", "noise.bin", "damaged_call.bin"))
     return octets, room.octets("p25 show", octets)
@@ -127,7 +127,7 @@ def options_of(turns):
 
 
 def received(form, turns, octets, scale=1.0, offset=0.0):
-    """A recording in a form of a receiver, with the turns p, then s, then l."""
+    """Returns a recording in a form of a receiver, with the turns p, then s, then l."""
     dibits = [octet >> shift & 3 for octet in octets for shift in (6, 4, 2, 0)]
     if "p" in turns:
         dibits = [(2, 3, 0, 1)[dibit] for dibit in dibits]
@@ -150,7 +150,8 @@ def received(form, turns, octets, scale=1.0, offset=0.0):
 
 
 def lines_of_calls(calls, pairs, is_clear=False):
-    """The lines of p25 show of calls of four networks with so many pairs of voice units and as long pauses, some broken and lost units if not clear."""
+    """Returns the lines of p25 show of calls of four networks with a number of pairs of voice units and as long pauses; some units are broken or lost if not
+    clear."""
     at, lines = 0, []
 
     def add(kind, bits, rest=None, fix=0):

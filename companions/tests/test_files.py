@@ -1,4 +1,4 @@
-"""Files as people have them: each is read, or named as what it is; and the helper scripts that take a file in any form."""
+"""Files as people have them: each is decoded, or its type is named; and the helper scripts that take a file in any form."""
 
 import array
 import bz2
@@ -30,7 +30,7 @@ UNITS = 23
 
 
 def logged(text, before, after, width=80):
-    """Lines of a log with parts of a text in them."""
+    """Returns lines of a log with parts of a text in them."""
     return "".join(f"{before}{text[place : place + width]}{after}\n" for place in range(0, len(text), width)).encode()
 
 
@@ -39,7 +39,7 @@ def texts(values, between="\n"):
 
 
 def sine(code, size, width=7):
-    """Samples of a tone."""
+    """Returns samples of a tone."""
     return array.array(code, ((int if code in "hB" else float)(size * math.sin(place / width) + (128 if code == "B" else 0)) for place in range(40000))).tobytes()
 
 
@@ -52,7 +52,7 @@ def noise(count):
     return random.Random(7).randbytes(count)
 
 
-# What a file is, its octets, and the form that is found.
+# The name of a file, its octets, and the form that is found.
 READ = {
     "octets": (CALLS, "octets"),
     "octets, inverted": (received("octets", "p", CALLS), "-p octets"),
@@ -89,7 +89,7 @@ READ = {
     "a log with words around": (logged(DIGITS, "sym ", " 12 dB"), "-w digits"),
     "a log of bits": (logged(BITS, "08:00:01 bits=", " end"), "-w bits"),
 }
-# What a file is, its octets, and what is said of it.
+# The name of a file, its octets, and the message about it.
 NAMED = {
     "gzip": (gzip.compress(CALLS), "is packed with gzip: unpack it first"),
     "bzip2": (bz2.compress(CALLS), "is packed with bzip2"),
@@ -112,7 +112,7 @@ NAMED = {
 
 @pytest.mark.parametrize("name", READ)
 def test_read(room, name):
-    """The first line is right, and its command reads the file."""
+    """Checks that the first line is correct, and that its command decodes the file."""
     octets, words = READ[name]
     status, out, _ = room.run(f"p25-guess {room.put('made', octets)}")
     count, command = re.match(r" *(\d+) units .* others  (.*)", out.decode()).groups()
@@ -134,7 +134,7 @@ def test_count():
 
 @pytest.mark.parametrize("page", ["docs/RECIPES.md", "docs/FORMATS.md", "docs/WEAK.md", "samples/README.md"])
 def test_installed_pages(room, page):
-    """Each link of an installed page leads to a heading of its own, or to a file that is installed beside it; its commands are installed too."""
+    """Checks that each link of an installed page leads to a heading of its own, or to an installed file, and that its commands are installed."""
     text = room.text(f"{TOP}/packaging/page {TOP}/{page}")
     installed = (TOP / "install.sh").read_text()
     for link in re.findall(r"\]\(([^)]*)\)", text):
@@ -144,7 +144,7 @@ def test_installed_pages(room, page):
 
 
 def ended(lines):
-    """What p25-watch says of calls that have ended: what it knows of one that begins depends on what came at once."""
+    """Returns the lines of p25-watch on calls that have ended; the line of a call that begins depends on the lines that came together."""
     return [line for line in lines.splitlines() if not line.startswith(b"begins ")]
 
 
@@ -153,14 +153,14 @@ ONE = [("octets", CALLS), ("-s -l dibits", received("dibits", "sl", CALLS)), ("f
 
 @pytest.mark.parametrize("form, octets", ONE, ids=[form for form, _ in ONE])
 def test_one_command(room, form, octets):
-    """A file in any form is what its lines are, with the syncs that follow finds, and standard error has the form."""
+    """Checks that a file in any form gives the same as its lines, with the syncs that follow finds, and that standard error has the form."""
     name = room.put("a file", octets)
     shown = room.octets("p25 follow | p25 show", CALLS)
     for script in ("p25-talkers", "p25-watch --plain"):
         status, out, told = room.run(f"{script} '{name}'")
         assert (status, ended(out)) == (0, ended(room.octets(script, shown)))
         assert told.startswith(f"{script.split()[0]}: 'a file' is taken for the form {form}: ")
-        # The command that it tells gives the same lines; p25-octets -a says what it found.
+        # The command that it prints gives the same lines; p25-octets -a prints what it found.
         assert room.run(told.split(f"form {form}: ")[1].rstrip("\n"))[1] == shown
     status, page, told = room.run(f"p25-page '{name}'")
     assert status == 0 and f"taken for the form {form}: " in told and b"4097" in page
@@ -175,7 +175,7 @@ def test_one_command_refuses(room):
 
 
 def test_without_the_program(room):
-    """A copy of the scripts without p25 says so."""
+    """Checks the message of a copy of the scripts without p25."""
     copy = room.path / "copy"
     copy.mkdir()
     for path in (TOP / "companions").glob("p25*"):
@@ -188,7 +188,7 @@ def test_without_the_program(room):
 
 
 def test_speed_of_levels():
-    """Levels of 100 seconds of a channel take half a second of a processor at most: a tenth of 3.4 seconds for 133, and some for a slow one."""
+    """Checks that 100 s of soft symbols take at most 0.5 s of CPU time."""
     symbols = array.array("f", [1000 * it + 150 for it in SYMBOLS] * 21).tobytes()
     made = p25_forms.converter("floats", p25_forms.Turns(), True)
     began = time.process_time()
@@ -209,11 +209,12 @@ def test_times_of_names():
 
 
 def test_page_of_a_folder(room):
-    """Files are told by the times of their names; those that go on in one another are one recording, whose unit on a cut is whole."""
+    """Checks that files are ordered by the times of their names, and that files that continue one another are one recording, in which a unit over two files
+    is whole."""
     folder = room.path / "day"
     folder.mkdir()
     half = len(CALLS) // 2
-    # The second file begins where the first one ends.
+    # The second file begins at the end of the first one.
     (folder / "2026-11-28T080000Z.bin").write_bytes(CALLS[:half])
     (folder / "2026-11-28T080002Z.bin").write_bytes(CALLS[half:])
     (folder / "20261128_093000.dibits").write_bytes(received("dibits", "s", CALLS))

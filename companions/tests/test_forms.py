@@ -73,7 +73,7 @@ def test_levels(room):
 
 @pytest.mark.parametrize("form, first", [("octets", 18), ("dibits", 80), ("digits", 80), ("bits", 153), ("floats", 1152), ("floats -a", 1152)])
 def test_live(room, form, first):
-    """The first line is there 0.2 s after the octets that decide it, in the best of the tries of a minute."""
+    """Checks that the first line is there 0.2 s after the octets that decide it, in the best of the tries of a minute."""
     made = received(form.split()[0], "", SAMPLES["terminators.bin"].read_bytes())
     began, best = time.monotonic(), 9.0
     while best >= 0.2 and time.monotonic() < began + 60:
@@ -97,7 +97,7 @@ SPEEDS = {
 
 @pytest.mark.parametrize("form", SPEEDS)
 def test_speed(room, form):
-    """16 MiB of output take so many seconds of a processor at most."""
+    """Checks the most CPU time of 16 MiB of output."""
     octets, seconds = SPEEDS[form]
     room.put("made", octets * (1048576 if form == "floats" else 4194304))
     before = os.times()
@@ -108,14 +108,14 @@ def test_speed(room, form):
 
 
 def guessed(room, name, status=0):
-    """The lines of p25-guess of a file, and its words on standard error."""
+    """Returns the lines of p25-guess for a file, and its message on standard error."""
     ended, out, told = room.run(f"p25-guess '{name}'")
     assert ended == status, told
     return out.decode().splitlines(), told.splitlines()
 
 
 def best(lines):
-    """The command of the first line."""
+    """Returns the command of the first line."""
     return lines[0].split("others  ")[1]
 
 
@@ -133,12 +133,12 @@ def test_guess(room, form, turns):
 
 
 def test_guess_lines(room):
-    """Each line has the number of units that its command finds, and the best comes first."""
+    """Checks that each line has the number of units that its command finds, and that the best comes first."""
     lines, _ = guessed(room, room.put("made", received("dibits", "s", CALLS)))
     counts = [int(line.split()[0]) for line in lines]
     assert len(lines) == 32 and counts == sorted(counts, reverse=True)
     for line, count in zip(lines, counts):
-        # p25-octets says what it finds of levels.
+        # p25-octets prints what it finds in soft symbols.
         shown = room.run(best([line]))[1]
         assert shown.count(b"unit at") == count + shown.count(b"nounit at")
 
@@ -157,7 +157,7 @@ def test_guess_commands(room, make, command):
 
 
 def control_channel(room):
-    """Units whose identifier is 7, made of terminators, and bits after them."""
+    """Returns units with the DUID 7, made from terminators, and bits after them."""
     flips = "61,64,65,73-77,80,83,84,87,88,92,95-97,99,104-106,108,112"
     unit = room.octets(f"p25-flip {flips}", room.build("tdu nac=293"))
     noise = SAMPLES["noise.bin"].read_bytes()

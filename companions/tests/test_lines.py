@@ -1,4 +1,5 @@
-"""p25-rate, p25-json, p25-split, p25-damage and p25-flip; and what all helper scripts have: options, ends, pages, completion."""
+"""p25-rate, p25-json, p25-split, p25-damage and p25-flip; and the common parts of all helper scripts: options, ends, pages,
+completion."""
 
 import json
 import math
@@ -59,7 +60,7 @@ def total(room, shown, words=""):
 
 @pytest.mark.parametrize("unit", UNITS)
 def test_bits_that_are_looked_at(room, unit):
-    """Of a copy of the unit for each of its bits, with this bit wrong, all are whole, and their fixes are the divisor for each."""
+    """Checks that each copy of the unit with one bit error is whole, and that the sum of their fixes is the divisor for each."""
     octets = room.build(unit)
     copies = b"".join((bits(octets) ^ 1 << place).to_bytes(len(octets), "big") for place in range(8 * len(octets)))
     ((_, units, looked, wrong, _, _),) = total(room, room.octets("p25 show", copies))
@@ -73,7 +74,7 @@ def long(mixed):
 
 @pytest.mark.parametrize("rate", [1, 2, 3, 6, 10, 16])
 def test_rates(room, long, rate):
-    """The table is that of another count of the lines, and near to what was inverted."""
+    """Checks that the table agrees with another count of the lines, and is near to the bits that were inverted."""
     shown = room.octets(f"p25-damage {rate} {rate} | p25 show", long)
     rows = [line.split() for line in room.lines("p25-rate -c", shown)]
     rows = {row[0].split(",")[0]: row[0].split(",")[1:] for row in rows}
@@ -87,7 +88,7 @@ def test_rates(room, long, rate):
 
 
 def test_rate_of_fronts(room, long):
-    """With the recording, syncs and identifiers of all units count, as they came."""
+    """Checks that with the recording, received syncs and NIDs of all units count."""
     for name in ("traffic.bin", "terminators.bin", "shifted.bin"):
         assert room.text(f"p25 show < {name} | p25-rate --recording {name}").count(" 0    0.000 %") >= 3
     room.put("long.bin", long)
@@ -109,7 +110,7 @@ def test_rate_of_fronts(room, long):
 
 @pytest.mark.parametrize("seconds", ["0.1", "0.3333", "1", "7", "3.14159", "0.0003", "1000", "86400"])
 def test_rate_by_time(room, long, seconds):
-    """Slices are as many as the time has, and have together what the recording has."""
+    """Checks that there are as many slices as the time has, and that their sums are those of the recording."""
     octets = long[: len(long) // (20 if seconds == "0.0003" else 4)]
     shown = room.octets("p25-damage 6 6 | p25 show", octets)
     rows = [line.split(",") for line in room.lines(f"p25-rate -t {seconds} -c", shown)][1:]
@@ -124,7 +125,7 @@ def test_rate_by_time(room, long, seconds):
 
 
 def loss(room):
-    """A call of which one unit of six is lost, and a pause as long as ten."""
+    """Returns the lines of a call of which one unit of six is lost, and of a pause as long as ten."""
     units = [*UNITS[:3], *UNITS[1:3], UNITS[4], 2160, UNITS[0], UNITS[1], 216, *UNITS[1:3], UNITS[4]]
     return room.octets("p25 show", room.build(*units))
 
@@ -152,7 +153,7 @@ def test_picture(room, mixed):
 
 
 def test_picture_with_a_clock(room, mixed):
-    """The labels of the axis are read as they are drawn: each has a time and a day, in two lines."""
+    """Checks the labels of the axis as they are drawn: each has a time and a day, in two lines."""
     need("gnuplot")
     room.octets("p25 show | p25-rate -t 0.5 -g pic --begin 2026-11-28T23:59:58+01:00 > counted", 8 * CALLS)
     room.put("pic.gp", room.get("pic.gp").replace(b"set terminal png size", b"set terminal svg size").replace(b"'pic.png'", b"'pic.svg'"))
@@ -270,7 +271,7 @@ def test_json_of_calls(room, mixed):
 
 @pytest.fixture(scope="module")
 def ragged(tmp_path_factory, mixed):
-    """Units at all distances from an octet, long packets, gaps of all lengths, damage; and its lines."""
+    """Returns a recording of units at all distances from an octet, long packets, gaps of all lengths and damage, and its lines."""
     from conftest import Room
 
     room = Room(tmp_path_factory.mktemp("ragged"))
@@ -298,7 +299,7 @@ def test_split_ends_anywhere(room, ragged, size):
 
 
 def test_split_ends_at_each_octet(room):
-    """The voice of a unit ends with a part of a sync that goes on after it."""
+    """Checks a unit whose voice ends with a part of a sync that continues after it."""
     shifted = SAMPLES["shifted.bin"].read_bytes()
     voice = room.build(f"ldu1 nac=293 lc={'0' * 18} lsd=0000 voice={'0' * 319}155d7", "tdu nac=293", status=3)[:216]
     room.put("made", bytes(4090) + shifted + bytes(9) + voice + b"\x5f\xf7\x7f\xf0" + bytes(8) + shifted + bytes(2000))
@@ -310,7 +311,7 @@ def test_split_ends_at_each_octet(room):
 
 @pytest.mark.parametrize("before", [0, 5000])
 def test_split_live(room, before):
-    """A line is there while the pipe is open, and an interrupt shows what is left."""
+    """Checks that a line is there while the pipe is open, and that an interrupt shows the rest."""
     run = subprocess.Popen(["p25-split", "-", "4096"], stdin=subprocess.PIPE, stdout=subprocess.PIPE, bufsize=0)
     run.stdin.write(bytes(before) + SAMPLES["call.bin"].read_bytes() + SAMPLES["call.bin"].read_bytes()[:50])
     lines = b""
@@ -340,7 +341,7 @@ def test_split_of_what_is_longer_than_p25_reads(room):
 
 
 def test_a_day_takes_a_minute_and_100_mb(room):
-    """A twentieth of a day takes a twentieth of a minute of a processor, and no more memory."""
+    """Checks that a twentieth of a day takes at most six times a twentieth of a CPU minute, and at most 100 MB."""
     room.put("some.bin", 900 * CALLS)
     before = os.times()
     room.octets("p25-split some.bin > lines; p25-talkers -c < lines > talkers")
@@ -350,7 +351,7 @@ def test_a_day_takes_a_minute_and_100_mb(room):
     assert resource.getrusage(resource.RUSAGE_CHILDREN).ru_maxrss < 100000
 
 
-# -- What all samples give.
+# -- The results for all samples.
 
 
 @pytest.mark.parametrize("name", RECORDINGS)
@@ -367,7 +368,7 @@ def test_samples(room, name):
 
 # -- Options, ends and pages of all.
 
-# Words with which a script reads its input.
+# Arguments with which a script reads its input.
 INPUT = {"p25-octets": "octets", "p25-damage": "1 2", "p25-flip": "0", "p25-split": "-", "p25-page": "", "p25-watch": ""}
 
 
@@ -390,7 +391,7 @@ def test_ends(room, name):
     if name == "p25-page":
         pytest.importorskip("jinja2")
     assert room.run(f"{command} > /dev/full", given)[::2] == (4, f"{name}: the output cannot be written: No space left on device\n")
-    # A reader that leaves early ends a script without a word.
+    # A reader that ends early ends a script without a message.
     assert room.run(f"{command} | head -c 1", given if name == "p25-page" else 300 * given)[2] == ""
 
 

@@ -1,6 +1,6 @@
-"""p25-page: its page, as tidy checks it and as Chromium shows it.
+"""p25-page: its page in tidy and in Chromium.
 
-With P25_KEEP=FOLDER in the environment pages and pictures stay there.
+With P25_KEEP=FOLDER in the environment pages and pictures are kept there.
 """
 
 import base64
@@ -21,7 +21,7 @@ BEGUN = "--begin 2026-11-28T08:00:00+01:00"
 
 
 def page(room, name, words="", given=b"", told=""):
-    """Returns the path and the text of a page, with which tidy finds no fault and which loads nothing."""
+    """Returns the path and the text of a page, and checks that tidy finds no fault in it and that it loads nothing."""
     need("tidy")
     path = os.path.join(KEEP or room.path, f"{name}.html")
     status, text, error = room.run(f"p25-page {words}", given)
@@ -71,7 +71,7 @@ class Browser:
         self.command("Emulation.setEmulatedMedia", features=[{"name": "prefers-color-scheme", "value": scheme}])
 
     def processor(self):
-        """Returns the seconds of a processor that the browser has taken, with all its processes."""
+        """Returns the CPU seconds that the browser has taken, with all its processes."""
         parents, ticks = {}, {}
         for name in filter(str.isdigit, os.listdir("/proc")):
             try:
@@ -158,7 +158,7 @@ def test_two_radios_in_one_run(room):
 
 
 def test_honest_numbers(room):
-    """Bit errors are those of whole units, beside the share of the others, with the odds of WEAK.md."""
+    """Checks that bit errors are those of whole units, beside the share of the others, with the odds of WEAK.md."""
     room.put("poor.bin", room.octets("p25-damage 3 7 < traffic.bin"))
     reception = summary(page(room, "poor", "poor.bin")[1])[-1]
     assert re.fullmatch(
@@ -175,7 +175,7 @@ def test_names_by_network(room):
 
 
 def test_numbers(room):
-    """What the page tells is what p25-talkers counts."""
+    """Checks that the numbers of the page are those of p25-talkers."""
     damaged = b"".join(room.octets(f"p25-damage {seed} {seed % 7} < traffic.bin") for seed in range(1, 25))
     lines = room.text("p25 show", damaged)
     rows = [line.split(",") for line in room.lines("p25-talkers -c", lines)]
@@ -192,7 +192,7 @@ def test_numbers(room):
     assert "{:,} whole, {:,} broken, {:,} syncs".format(*counts) in text
     lost, sent = (sum(int(row[name]) for row in rows) for name in ("lost", "sent"))
     assert f"of {sent:,} voice units" in text and f"and {lost:,} were not heard (lost)" in text
-    # The slices together have what the calls have.
+    # The sums of the slices are those of the calls.
     sums = [sum(column) for column in zip(*(row[1:] for row in data["slices"]))]
     places = [(int(at), int(at) + int(bits)) for at, bits in re.findall(r"call at=(\d+) bits=(\d+)", room.text("p25 calls", damaged))]
     units = [(int(at), int(bits)) for at, bits in re.findall(r"^unit at=(\d+) bits=(\d+)", lines, re.M)]
@@ -205,7 +205,7 @@ EVIL = '<script>alert(1)</script></script><img src=x onerror=alert(2)>"\'&amp;{{
 
 
 def test_escape(room, browser):
-    """Names, titles and names of files are texts in the page, whatever they hold."""
+    """Checks that names, titles and names of files are texts in the page, also hostile ones."""
     quoted = EVIL.replace('"', '""')
     room.put("names.csv", f'group,100,"{quoted}"\nradio,4097,"{quoted}"\nradio,4098,Ólafur 北\n')
     room.put("a <b>&.bin", TRAFFIC)
@@ -222,7 +222,7 @@ def test_escape(room, browser):
 
 @pytest.fixture
 def traffic(room):
-    """The page of a sample, the same of its lines, of a file of lines, and of the recording."""
+    """Returns the page of a sample, and checks that it is the same for its lines, for a file of lines, and for the recording."""
     lines = room.put("traffic.show", room.octets("p25 show < traffic.bin"))
     pages = [page(room, f"traffic {place}", f"{BEGUN} {words}", given)
              for place, (words, given) in enumerate((("--recording traffic.bin", room.get(lines)), (lines, b""), ("traffic.bin", b"")))]
@@ -240,7 +240,7 @@ def test_looks(browser, traffic, scheme, width):
     assert browser.run("return [document.documentElement.scrollWidth, innerWidth]") == [width, width]
     assert browser.run(CONTRAST) == []
     if width == 360:
-        # On a phone who speaks and to whom are seen first, and an emergency before them.
+        # A phone shows talker and called first, and an emergency before them.
         seen = "const box = document.querySelector('#calls .scroll').getBoundingClientRect(); return [...document.querySelectorAll('#calls tbody tr')].map((row) => [...row.cells]"
         rows = browser.run(f"{seen}.filter((cell) => cell.getBoundingClientRect().right <= box.right + 1).map((cell) => cell.innerText))")
         assert [row[:2] for row in rows] == [["radio 4097", "group 100"], ["radio 4098", "group 200"], ["radio 4099", "radio 4100"], ["EMERGENCY radio 4097", "group 100"]]
@@ -298,14 +298,14 @@ def test_acts(browser, traffic):
     assert browser.texts(times) == ["08:00:03.9"]
     browser.click("#follow")
     assert len(browser.texts(times)) == 4 and browser.log("browser") == []
-    # For a screen reader: names of all that acts, headings in order.
+    # For a screen reader: names of all controls, headings in order.
     assert browser.run(NAMELESS) == []
     assert browser.run("return [...document.querySelectorAll('h1,h2,h3')].map(e => e.tagName[1]).join('')")[:2] == "12"
     assert browser.run("return document.querySelector('#chart svg').ariaLabel").startswith("Calls from 08:00")
 
 
 def test_paper(browser, traffic):
-    """On paper all is dark on light, what acts is left out, and words are explained."""
+    """Checks that paper shows all dark on light, without controls, and that it explains words."""
     browser.open(traffic)
     browser.command("Emulation.setEmulatedMedia", media="print", features=[{"name": "prefers-color-scheme", "value": "dark"}])
     assert browser.run("return [getComputedStyle(document.body).color, getComputedStyle(document.body).backgroundColor]") == ["rgb(0, 0, 0)", "rgb(255, 255, 255)"]
@@ -349,7 +349,7 @@ def test_names_with_commas_and_a_filter(room, browser):
 
 @pytest.mark.parametrize("calls, seconds", [(2000, 21.0), (60000, 0.7)])
 def test_day(room, browser, calls, seconds):
-    """A day of 2,000 calls, and one of more than are listed: at most 2 MB, and quick in the browser."""
+    """Checks that a day of 2,000 calls, and one of more than are listed, take at most 2 MB, and are quick in the browser."""
     path, text = page(room, "day", "--begin 2026-11-28T00:00:00Z", lines_of_calls(calls, max(1, int(seconds / 0.36))))
     assert len(text.encode()) <= 2_000_000 and f"{calls:,} calls" in text
     browser.size(1400, 900)
@@ -368,7 +368,7 @@ def test_day(room, browser, calls, seconds):
             browser.picture(os.path.join(KEEP, f"day-{calls}-{width}.png"))
 
 
-# Texts whose contrast to what is behind them is below 4.5.
+# Texts whose contrast to their background is below 4.5.
 CONTRAST = """
 const light = (text) => {
     const [r, g, b] = text.match(/[0-9.]+/g).map(Number).map((v) => { v /= 255; return v <= 0.03928 ? v / 12.92 : ((v + 0.055) / 1.055) ** 2.4; });
@@ -384,7 +384,7 @@ for (const e of document.querySelectorAll("body *")) {
 }
 return low;
 """
-# What acts and has no name.
+# Controls without a name.
 NAMELESS = """
 return [...document.querySelectorAll("button, input, a, [role=region], [role=img]")].filter((e) => !(e.innerText?.trim() || e.ariaLabel
     || (e.labels && e.labels.length && e.labels[0].innerText.trim()) || document.getElementById(e.getAttribute("aria-labelledby"))?.innerText)).map((e) => e.outerHTML.slice(0, 80));

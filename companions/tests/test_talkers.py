@@ -1,4 +1,4 @@
-"""p25-talkers and p25-calls: who spoke to whom, in lines, CSV and JSON, live and by the clock."""
+"""p25-talkers and p25-calls: talkers in lines, CSV and JSON, live and with times."""
 
 import datetime
 import json
@@ -15,12 +15,12 @@ SECOND, ALARM = "0000000004d2001111", "0000800004d200162e"
 
 
 def told(room, units, words="", source="p25 show"):
-    """The lines of p25-talkers of some units."""
+    """Returns the lines of p25-talkers for some units."""
     return room.text(f"{source} | p25-talkers {words} 2>/dev/null", room.build(*units)).splitlines()
 
 
 def who(line):
-    """Who speaks, of a line."""
+    """Returns the talker of a line."""
     return line.split(": ", 1)[1].split("; ")[0]
 
 
@@ -45,7 +45,7 @@ def test_four_calls(room):
     ]
 
 
-# Two radios in one run of voice, and what each form says of it.
+# Two radios in one run of voice, and the output of each form.
 EMERGENCY = [hdu(1234), *pairs(4, ALARM), *pairs(5, SECOND), "tdu nac=293"]
 
 
@@ -63,7 +63,7 @@ def test_emergency_in_a_run_of_two(room):
     assert "ended  0:00:00.0, for 1.5 s, nac 293: radio 5678 to group 1234, EMERGENCY, clear" in watched[1]
     assert watched[-1] == "units 20 whole, 0 broken, 0 lost; 2 calls, 1 emergency; 3.3 s"
     assert len(room.lines(f"p25-watch --emergency < {shown}")) == 3
-    # As one call of p25-calls both are told, and the emergency is found.
+    # As one call of p25-calls both are named, and the emergency is found.
     (line,) = room.lines(f"p25-calls -v < {shown} | p25-talkers --emergency")
     assert who(line) == "radio 4369 to group 1234, also radio 5678 to group 1234, emergency, clear"
     assert "at least 18 sent, 18 heard, 0 broken; more than one talker is told" in line
@@ -81,16 +81,16 @@ UPDATE = "420000000064001001"
         ([*pairs(2, A), *pairs(2, B)], ["radio 10 to group 100, clear", "radio 11 to group 100, clear"]),
         ([*pairs(2, A), *pairs(1, B)], ["radio 10 to group 100, clear"]),
         ([*pairs(2, A), *pairs(1, B), tdulc(B)], ["radio 10 to group 100, clear", "radio 11 to group 100, clear"]),
-        # One word of a talk that was told before is enough.
+        # One word of a talk that was named before is enough.
         ([*pairs(2, A), *pairs(2, B), *pairs(1, A)], ["radio 10 to group 100, clear", "radio 11 to group 100, clear", "radio 10 to group 100, clear"]),
         ([*pairs(2, A), *pairs(1, B), *pairs(1, C), *pairs(1, A)], ["radio 10 to group 100, clear"]),
-        # Words of other formats tell no one.
+        # Words of other formats name no one.
         ([ldu1(A), *pairs(2, UPDATE), ldu1(A), *pairs(1, UPDATE), *pairs(2, B)], ["radio 10 to group 100, clear", "radio 11 to group 100, clear"]),
-        # A single word at the beginning is no talker, but with the group of the header.
+        # A single word at the beginning is no talker, unless it has the group of the header.
         ([*pairs(1, C), *pairs(3, B)], ["radio 11 to group 100, clear"]),
         ([hdu(100), *pairs(1, C), *pairs(3, B)], ["radio 12 to group 100, clear", "radio 11 to group 100, clear"]),
         ([hdu(7), *pairs(1, C), *pairs(3, B)], ["radio 11 to group 100, clear"]),
-        # A tie is told as one.
+        # A tie is named as one.
         ([*pairs(1, A), *pairs(1, B)], ["radio 10 to group 100 or radio 11 to group 100, clear"]),
         # An emergency takes one word, in a terminator too, and without voice.
         ([*pairs(2, A), *pairs(1, ALARM), *pairs(2, A)], ["radio 10 to group 100, clear", "radio 5678 to group 1234, emergency, clear", "radio 10 to group 100, clear"]),
@@ -124,10 +124,10 @@ def test_exact_only_if_no_word_disagrees(room, words, is_exact):
 @pytest.mark.parametrize(
     "units",
     [
-        # A terminator and a header were lost: what is between the voice units is no multiple of one.
+        # A terminator and a header were lost: the distance between the voice units is no multiple of one.
         [*pairs(1, A), 117, *pairs(1, UPDATE)],
         [*pairs(1, A), 18, *pairs(1, UPDATE), 198, *pairs(1, UPDATE)],
-        # Two units of a kind follow one another, or units of another cipher.
+        # Two units of a type follow one another, or units of another cipher.
         [*pairs(1, A), ldu2()],
         [*pairs(1, A), 216, ldu1(UPDATE), ldu2()],
         [*pairs(1, A), *pairs(1, UPDATE, "84", "0001")],
@@ -136,7 +136,7 @@ def test_exact_only_if_no_word_disagrees(room, words, is_exact):
 def test_exact_only_if_the_units_are_of_one_call(room, units):
     (line,) = told(room, [hdu(100), *units, "tdu nac=293"])
     assert re.search("voice units at least [0-9]+ sent, [0-9]+ heard, 0 broken; perhaps two calls; 0 of ", line)
-    # Lost units in the turn of their kinds are none.
+    # Lost units in the turn of their types divide nothing.
     (line,) = told(room, [hdu(100), *pairs(1, A), 432, *pairs(1, UPDATE), "tdu nac=293"])
     assert "voice units 6 sent, 4 heard, 2 lost; 0 of " in line
 
@@ -245,7 +245,7 @@ def test_times(room, words, wanted):
 
 
 class Live:
-    """A pipeline that is fed bit by bit, and whose lines are read as they come."""
+    """A pipeline that is fed bit by bit, and whose lines are taken as they come."""
 
     def __init__(self, room, command):
         self.run = subprocess.Popen(["sh", "-c", command], cwd=room.path, stdin=subprocess.PIPE, stdout=subprocess.PIPE, start_new_session=True)
@@ -255,7 +255,7 @@ class Live:
         self.run.stdin.flush()
 
     def line(self):
-        """The next line."""
+        """Returns the next line."""
         return self.run.stdout.readline().decode()
 
     def end(self):
@@ -268,7 +268,7 @@ def time_of(line):
 
 
 def test_now_is_the_first_bit_and_silence_counts(room):
-    """The first bit comes two seconds after the script, and three seconds are left out between two calls."""
+    """Checks the times if the first bit comes two seconds after the script, and three seconds are left out between two calls."""
     first, second = (room.octets("p25 show", room.build(hdu(100), *pairs(3, lc), tdulc(lc))) for lc in (A, B))
     second = b"".join(b"%s at=%d %s\n" % (kind, int(at[3:]) + 11592, rest) for kind, at, rest in (line.split(b" ", 2) for line in second.splitlines()))
     live = Live(room, "p25-talkers --begin now")
@@ -286,7 +286,7 @@ def test_now_is_the_first_bit_and_silence_counts(room):
 
 
 def test_live_lines(room):
-    """A line is there while the pipe is open, and an interrupt gives the call that is open."""
+    """Checks that a line is there while the pipe is open, and that an interrupt gives the call that is open."""
     shown = room.octets("p25 show < traffic.bin").splitlines(keepends=True)
     live = Live(room, "exec p25-talkers")
     live.give(b"".join(shown[:8]))
@@ -309,7 +309,7 @@ def test_live_lines(room):
 @pytest.mark.parametrize("pipe", ["p25 show | p25-talkers", "p25-split - | p25-talkers", "p25-split - | p25-calls -v | p25-talkers"])
 def test_interrupt_of_a_pipe(room, pipe):
     octets = SAMPLES["traffic.bin"].read_bytes()[:747]
-    # How long the pipe takes, on a machine as busy as it is.
+    # The time that the pipe takes, on a machine as busy as it is now.
     began = time.monotonic()
     room.octets(pipe, octets)
     took = time.monotonic() - began
@@ -373,7 +373,7 @@ def test_files_of_other_names(room, octets, error):
 
 
 def test_json_and_csv_are_read(room):
-    """Numbers are numbers, and an access code is a text."""
+    """Checks that numbers are numbers, and that a NAC is a text."""
     shown = room.put("codes.show", room.octets("p25 show", room.build(
         ldu1("000080000064001001", "001"), "tdu nac=001", ldu1("0300000010040010ff", "2e1"), "tdu nac=2e1", status=0)))
     rows = [json.loads(line) for line in room.lines(f"p25-talkers -j < {shown}")]
@@ -397,7 +397,7 @@ def test_calls_of_samples(room, name):
 
 
 def test_calls_of_damaged_recordings(room, mixed):
-    """The calls of hundreds are those of p25, also by -p, by chunks of p25-split, and after -v."""
+    """Checks that the calls of hundreds of recordings are those of p25, also by -p, by chunks of p25-split, and after -v."""
     some = room.put("some.bin", mixed[0] + SAMPLES["shifted.bin"].read_bytes() + SAMPLES["traffic.bin"].read_bytes())
     calls = room.put("all.calls", b"")
     room.run(f"for seed in $(seq 1 20); do for rate in 0.5 2 4 6 8 10 13; do p25-damage $seed $rate < {some} > made; p25 show < made >> shown; p25 calls < made | sed '$d' >> {calls}; done; done")

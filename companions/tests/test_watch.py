@@ -1,4 +1,4 @@
-"""p25-watch: its lines, and its screen in a terminal of tmux, which is looked at until it has what is wanted."""
+"""p25-watch: its lines, and its screen in a terminal of tmux, which is examined until it has the expected text."""
 
 import os
 import re
@@ -24,7 +24,7 @@ NAMES = "# names\ngroup,100,Fire dispatch\nradio,4097,Engine 3\nradio,4099,a\033
 
 @pytest.fixture
 def shown(room):
-    """The lines of four calls, also in files."""
+    """Returns the lines of four calls, also in files."""
     lines = room.octets("p25 show < traffic.bin")
     room.put("traffic.show", lines)
     room.put("open.show", b"".join(lines.splitlines(keepends=True)[:-1]))
@@ -41,7 +41,7 @@ def shown(room):
         ("p25-watch --radio 4100 < traffic.show | grep -c '^ended'", "1\n"),
         ("p25-watch < /dev/null", "units 0 whole, 0 broken, 0 lost; 0 calls; 0.0 s\n"),
         ("p25-watch < open.show | grep -c '^ended'", "4\n"),
-        # Segments, whose positions begin anew, are put end to end.
+        # Segments, whose positions begin anew, are joined end to end.
         ("cat traffic.show traffic.show | p25-watch | tail -n 1", "units 46 whole, 0 broken, 0 lost; 8 calls, 2 emergencies; 9.6 s\n"),
     ],
 )
@@ -60,7 +60,7 @@ def test_live(room, shown):
 
 @pytest.mark.parametrize("seed", range(1, 25))
 def test_damaged_recordings(room, mixed, seed):
-    """It tells the calls of p25 calls, with what p25-talkers counts of them."""
+    """Checks that it shows the calls of p25 calls, with the numbers of p25-talkers."""
     room.put("damaged.bin", room.octets(f"p25-damage {seed} {seed % 12}", mixed[0]))
     shown = room.text("p25 show < damaged.bin > damaged.show; cat damaged.show")
     told = room.lines("p25-watch < damaged.show")
@@ -86,12 +86,12 @@ def test_wrong_lines(room, shown):
 def test_recordings(room, name):
     status, out, told = room.run(f"p25-watch {name}")
     shown = told.rstrip("\n").split(": ", 2)[2]
-    # What it knows of a call that begins depends on what came at once.
+    # The line of a call that begins depends on the lines that came together.
     assert status == 0 and re.sub(b"begins .*\n", b"", out) == re.sub(b"begins .*\n", b"", room.octets("p25-watch", room.octets(shown)))
 
 
 def test_replay(room, shown):
-    """No call begins sooner than in the recording."""
+    """Checks that no call begins sooner than in the recording."""
     began = time.monotonic()
     run = subprocess.Popen(["p25-watch", "--replay", "--plain"], stdin=open(room.path / "traffic.show", "rb"), stdout=subprocess.PIPE)
     times = [(time.monotonic() - began, line.split()[1].rstrip(b",")) for line in run.stdout]
@@ -126,7 +126,7 @@ class Terminal:
         return self.mux("capture-pane", "-p", *(["-e"] if colours else []))
 
     def state(self):
-        """Whether a program has the screen, and whether its cursor is seen."""
+        """Returns whether a program has the screen, and whether its cursor is seen."""
         return self.mux("display-message", "-p", "#{alternate_on} #{cursor_flag}").strip()
 
     def until(self, holds):
@@ -142,7 +142,7 @@ class Terminal:
         self.until(lambda: all(text in self.shown(colours) for text in texts))
 
     def is_as_before(self):
-        """The screen is that of the shell, with its cursor and its keys."""
+        """Checks that the screen is that of the shell, with its cursor and its keys."""
         self.until(lambda: self.state() == "0 1")
         self.sees("before the screen")
         self.type('stty -a | grep -o "[-]*icanon\\|[-]*echo " | tr -d " " | paste -s -d , -; echo "then $?"')
@@ -224,7 +224,7 @@ def test_ascii(terminal):
 
 
 def test_meter(room, terminal):
-    """Of eight units 19 of 383 bits are wrong each, one is broken and one lost."""
+    """Checks the meter for eight units with 19 bit errors in 383 bits each, one broken unit and one lost."""
     lines = [f"unit at={place * 1728} bits=1728 fix=19 status={'1' * 24} {ldu1()}" for place in range(10)]
     lines[3], lines[4] = f"gap at={3 * 1728} bits=1728", f"broken at={4 * 1728} bits=1728 nac=293 duid=a fields=encryption_sync"
     room.put("meter.show", "".join(f"{line}\n" for line in lines))
@@ -257,14 +257,14 @@ def test_replay_on_the_screen(room, terminal):
 
 
 def test_silence_of_a_live_pipe(room, shown, terminal):
-    """Silence that the receiver leaves out passes by the clock."""
+    """Checks that silence that the receiver leaves out passes in wall-clock time."""
     os.mkfifo(room.path / "live")
     screen = terminal("p25-watch --begin now < live")
     with open(room.path / "live", "wb", buffering=0) as pipe:
         pipe.write(b"".join(shown[:10]))
         screen.sees("group 100")
         time.sleep(6)
-        # Of the second call the receiver gives the beginning.
+        # The receiver gives the beginning of the second call.
         pipe.write(b"".join(shown[10:13]))
         screen.sees("293 4098 to group 200")
         pipe.write(b"".join(shown[13:]))
@@ -274,7 +274,7 @@ def test_silence_of_a_live_pipe(room, shown, terminal):
 
 
 def test_speed(room, terminal):
-    """100,000 units take at most half a minute of a processor, and the screen is alive meanwhile."""
+    """Checks that 100,000 units take at most 30 s of CPU time, and that the screen is alive meanwhile."""
     room.put("many.show", lines_of_calls(2000, 24, is_clear=True))
     screen = terminal("cat many.show | p25-watch; times >took; echo done")
     counts = set()
