@@ -1,13 +1,13 @@
-/* Makes the calls of the library from C, one kind in a run, so that bindings/test can compare what they answer with what p25 writes.
+/* Makes the calls of the library from C, one kind in a run, so that bindings/test can compare their results with the output of p25.
 
    usage: calls repair                 standard input is a recording; so it is of all but build, words and layout
           calls bridge NAC STATUS      NAC as three hexadecimal digits
           calls numbers                the numbers of each item
           calls prefixes               checks each beginning of the recording against the whole
           calls build STATUS           standard input is lines
-          calls words                  standard input is lines CODE RECEIVED.., as those of words.txt
-          calls layout                 the size of an item, and where its parts stand
-          calls edges                  what stands beside what is written, and each refusal */
+          calls words                  standard input is lines CODE RECEIVED.., as in words.txt
+          calls layout                 the size of an item, and the offsets of its members
+          calls edges                  the octets beside those written, and each refusal */
 #include "p25.h"
 
 #include <stdio.h>
@@ -22,7 +22,7 @@ static size_t n;
 static char text[P25_TEXT_ROOM];
 static int failures;
 
-/* Says which check failed. */
+/* Prints which check failed. */
 static void check(bool holds, const char *name) {
     if (!holds) {
         printf("failed: %s\n", name);
@@ -30,10 +30,10 @@ static void check(bool holds, const char *name) {
     }
 }
 
-/* Answers the bit at a place. */
+/* Returns the bit at a position. */
 static unsigned bit(const uint8_t *from, uint64_t place) { return from[place / 8] >> (7 - place % 8) & 1u; }
 
-/* Copies bits from one place to another. */
+/* Copies bits from one position to another. */
 static void copy_bits(const uint8_t *from, uint64_t at, uint8_t *to, uint64_t place, uint64_t count) {
     for (uint64_t i = 0; i < count; i++) {
         unsigned shift = (unsigned)(7 - (place + i) % 8);
@@ -42,14 +42,14 @@ static void copy_bits(const uint8_t *from, uint64_t at, uint8_t *to, uint64_t pl
     }
 }
 
-/* Answers the octets of an item, whose length fills octets where it is a unit. */
+/* Returns the octets of an item; if it is a unit, its length fills octets. */
 static const uint8_t *item_octets(const p25_item *item) {
     static uint8_t alone[P25_UNIT_ROOM];
     copy_bits(octets, item->place, alone, 0, item->bits);
     return alone;
 }
 
-/* Tells the next item of the whole recording. */
+/* Finds the next item of the whole recording. */
 static bool next(uint64_t *from, p25_item *item) {
     if (p25_next_item(octets, n, 0, *from, true, item, text, sizeof text) != P25_ITEM) {
         return false;
@@ -92,7 +92,7 @@ static void numbers(void) {
     }
 }
 
-/* What a beginning of the recording decides are the items of the whole, and where it has ended all its bits are covered. */
+/* Checks that a beginning of the recording decides items of the whole, and that they cover all its bits if it has ended. */
 static void prefixes(void) {
     for (size_t there = 0; there <= n; there++) {
         uint64_t from = 0;
@@ -114,7 +114,7 @@ static void prefixes(void) {
     }
 }
 
-/* Writes the units of lines, up to the first that is refused, of which it says the fault. */
+/* Writes the units of lines, up to the first that is refused, and prints its fault. */
 static void build(uint8_t status) {
     static const char *const faults[] = {"long", "form", "kind", "key", "value"};
     uint8_t unit[P25_UNIT_ROOM];
@@ -138,7 +138,7 @@ static void layout(void) {
            offsetof(p25_item, kind));
 }
 
-/* Answers whether each of these octets is the mark. */
+/* Returns whether each of these octets is the mark. */
 static bool all_are(const void *from, size_t count, uint8_t mark) {
     const uint8_t *octet = from;
     while (count > 0 && *octet == mark) {
@@ -150,7 +150,7 @@ static bool all_are(const void *from, size_t count, uint8_t mark) {
 
 enum { MARK = 0xA5 };
 
-/* What is written of an item, where there is room and where there is none, and what is not. */
+/* Checks the octets that are written of an item, with enough capacity and without, and those that are not. */
 static void item_edges(void) {
     struct {
         p25_item item;
@@ -189,7 +189,7 @@ static void item_edges(void) {
           "the greatest place that is taken");
 }
 
-/* What is written of a unit, and in which order refusals come. */
+/* Checks the octets that are written of a unit, and the order of refusals. */
 static void unit_edges(void) {
     static const char line[] = "tdu nac=293";
     size_t length = sizeof line - 1;
@@ -221,7 +221,7 @@ static void unit_edges(void) {
     check(all_are(other + 18, sizeof other - 18, MARK), "nothing is written after a bridged unit");
 }
 
-/* Reads a word of a Reed-Solomon code, two octal digits a symbol, and prints what it is read as. */
+/* Reads a word of a Reed-Solomon code, two octal digits a symbol, and prints its decoding. */
 static void symbol_word(const char *received, size_t count, int32_t (*read)(uint8_t *), int32_t (*write)(uint8_t *), size_t k) {
     uint8_t word[36];
     uint8_t again[36] = {0};
@@ -242,7 +242,7 @@ static void symbol_word(const char *received, size_t count, int32_t (*read)(uint
     printf(" %d\n", (int)answer);
 }
 
-/* Reads a word of a code of bits, in hexadecimal, and prints what it is read as. */
+/* Reads a word of a code of bits, in hexadecimal, and prints its decoding. */
 static void number_word(const char *received, int32_t (*read)(uint32_t *), uint32_t (*write)(uint32_t), unsigned checks) {
     uint32_t word = (uint32_t)strtoul(received, NULL, 16);
     int32_t answer = read(&word);
@@ -255,7 +255,7 @@ static void number_word(const char *received, int32_t (*read)(uint32_t *), uint3
     printf("Found %0*X %d\n", (int)strlen(received), (unsigned)word, (int)answer);
 }
 
-/* Reads the first 63 bits of an identifier, and prints those of the identifier that it is read as. */
+/* Reads the first 63 bits of an NID, and prints those of the NID to which they decode. */
 static void identifier_word(const char *received) {
     uint16_t nac = 0xABCD;
     uint8_t duid = 0xEF;
@@ -295,7 +295,7 @@ static void words(void) {
     }
 }
 
-/* What the calls on words refuse, and what they leave. */
+/* Checks what the calls on codewords refuse, and which octets they leave as they were. */
 static void word_edges(void) {
     uint8_t symbols[36] = {0};
     bool marks[36] = {false};

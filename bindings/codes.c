@@ -1,10 +1,10 @@
-/* Makes each call on words, blocks and checks once, with an example, and prints what it answers. codes.txt has what is printed. */
+/* Makes each call on codewords, blocks and checks once, with an example, and prints its results. codes.txt has the expected output. */
 #include "p25.h"
 
 #include <stdio.h>
 #include <string.h>
 
-/* Prints symbols as two octal digits each, and what a call answered. */
+/* Prints symbols as two octal digits each, and the return value of a call. */
 static void print_symbols(const char *call, int32_t answer, const uint8_t *symbols, size_t count) {
     printf("%s = %d, ", call, (int)answer);
     for (size_t i = 0; i < count; i++) {
@@ -13,7 +13,7 @@ static void print_symbols(const char *call, int32_t answer, const uint8_t *symbo
     puts("");
 }
 
-/* Prints octets in hexadecimal, and what a call answered. */
+/* Prints octets in hexadecimal, and the return value of a call. */
 static void print_octets(const char *call, unsigned long answer, const uint8_t *octets, size_t count) {
     printf("%s = %lu, ", call, answer);
     for (size_t i = 0; i < count; i++) {
@@ -22,8 +22,8 @@ static void print_octets(const char *call, unsigned long answer, const uint8_t *
     puts("");
 }
 
-/* The calls on a Reed-Solomon code: k symbols of information 1, 2, 3 and so on, then as many wrong symbols as are put right, then as many
-   that are not known. */
+/* Makes the calls on a Reed-Solomon code: k symbols of information 1, 2, 3 and so on, then as many wrong symbols as are corrected, then as many erased ones.
+   */
 #define SYMBOL_CODE(n, k)                                                              \
     static void symbol_code_##n##_##k(void) {                                          \
         uint8_t word[n] = {0};                                                         \
@@ -50,7 +50,7 @@ SYMBOL_CODE(36, 20)
 SYMBOL_CODE(24, 12)
 SYMBOL_CODE(24, 16)
 
-/* The calls on a code of bits: the word of an information, and that word with wrong bits. */
+/* Makes the calls on a code of bits: the codeword of an information, and that codeword with bit errors. */
 static void number_code(const char *name, uint32_t (*write)(uint32_t), int32_t (*read)(uint32_t *), uint32_t info, uint32_t wrong) {
     uint32_t word = write(info);
     printf("p25_%s_write(%02X) = %04X\n", name, (unsigned)info, (unsigned)word);
@@ -73,7 +73,7 @@ static void identifier(void) {
 /* The octets of a block at three-quarter rate; the first twelve are one at half rate. */
 static const uint8_t carried[18] = {0x56, 0xC0, 0x00, 0x12, 0x34, 0x56, 0x81, 0x00, 0x08, 0x9A, 0xBC, 0xDE, 0xF0, 0x0F, 0x1E, 0x2D, 0x3C, 0x4B};
 
-/* Sets the levels that stand for the bits of a block. */
+/* Writes the nominal levels of the bits of a block. */
 static void levels_of(const uint8_t *bits, int8_t *levels) {
     static const int8_t level[4] = {32, 96, -32, -96};
     for (int i = 0; i < 98; i++) {

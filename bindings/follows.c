@@ -1,10 +1,10 @@
-/* Follows, relays and softens a recording by the calls of the library, as p25 does by its commands. The recording comes by a stream, in
-   pieces by lot, and every buffer lies between two pages that nothing may touch.
+/* Follows, relays and softens a recording by the calls of the library, as p25 does by its commands. The recording comes by a stream, in random chunks, and
+   every buffer lies between two pages that nothing may touch.
 
-   usage: follows follow                reads a recording, and writes what p25 follow writes
-          follows relay NAC STATUS      and what p25 relay writes; NAC is hexadecimal
-          follows soft                  reads levels, and writes what p25 soft writes
-          follows edges                 each refusal, and what stands beside what is written */
+   usage: follows follow                reads a recording, and writes the output of p25 follow
+          follows relay NAC STATUS      and the output of p25 relay; NAC is hexadecimal
+          follows soft                  reads levels, and writes the output of p25 soft
+          follows edges                 each refusal, and the octets beside those written */
 #define _DEFAULT_SOURCE
 #include "guarded.h"
 #include "p25.h"
@@ -19,7 +19,7 @@ static void check(bool holds, const char *name) {
     }
 }
 
-/* What was written: bits, the first highest. */
+/* The output: bits, the first highest. */
 static uint8_t *sent;
 static uint64_t sent_bits;
 
@@ -32,7 +32,7 @@ static void put_bits(const uint8_t *octets, uint64_t count) {
 
 static void put_octets(const uint8_t *octets, int32_t count) { put_bits(octets, 8 * (uint64_t)count); }
 
-/* What is done with each item, of which the octets are given. */
+/* The work on each item, given its octets. */
 struct work {
     char kind;
     uint16_t nac;
@@ -107,7 +107,7 @@ static void take_items(const struct work *work, p25_stream *stream) {
     }
 }
 
-/* The work on a recording, in pieces by lot; of levels the dibits that they are nearest to go in. */
+/* Does the work on a recording, in random chunks; the input from levels is the dibits that they are nearest to. */
 static void work_on(const struct work *work, const uint8_t *input, size_t count) {
     struct buffer place = take(sizeof(p25_stream));
     p25_stream *stream = (p25_stream *)(void *)place.at;
@@ -161,7 +161,7 @@ static void edges(void) {
     }
     check(p25_follower_take(&follower, unit, 18, 0, &item, room, sizeof room) == 18 && memcmp(room, unit, 18) == 0, "a unit comes as it is");
     check(p25_follower_finish(&follower, NULL, 0) == 0, "nothing is kept of it");
-    /* A follower whose numbers are by lot: it answers, and one that fits none stays. */
+    /* A follower with random numbers: each call returns, and one that fits no follower does not change. */
     for (int i = 0; i < 200000; i++) {
         follower.reached = 0;
         follower.nac = (uint16_t)below(5000);

@@ -1,4 +1,4 @@
-/* Buffers between two pages that nothing may touch, and numbers by lot, for the programs that try the library. */
+/* Buffers between two pages that nothing may touch, and random numbers, for the programs that test the library. */
 #ifndef P25_GUARDED_H
 #define P25_GUARDED_H
 
@@ -11,7 +11,7 @@
 
 enum { PAGE = 4096, MARK = 0xA5 };
 
-/* Numbers by lot, the same in each run. */
+/* Returns a random number; the numbers are the same in each run. */
 static uint64_t state = 0x9E3779B97F4A7C15u;
 
 static size_t below(size_t limit) {
@@ -29,7 +29,7 @@ struct buffer {
     size_t size;
 };
 
-/* Answers a buffer of a size, whose first octet or whose last one is next to such a page. */
+/* Returns a buffer of a size, whose first octet or whose last one is next to such a page. */
 static struct buffer take(size_t size) {
     struct buffer made = {NULL, ((size + PAGE - 1) / PAGE + 2) * PAGE, NULL, size};
     made.pages = mmap(NULL, made.mapped, PROT_NONE, MAP_PRIVATE | MAP_ANONYMOUS, -1, 0);
@@ -44,7 +44,7 @@ static struct buffer take(size_t size) {
 
 static void give_back(struct buffer *made) { munmap(made->pages, made->mapped); }
 
-/* Answers whether each octet of a buffer outside a part of it is as it was at first. */
+/* Returns whether each octet of a buffer outside a part of it has its first value. */
 static bool is_whole(const struct buffer *made, size_t from, size_t count) {
     for (uint8_t *octet = made->pages + PAGE; octet < made->pages + made->mapped - PAGE; octet++) {
         if ((octet < made->at + from || octet >= made->at + from + count) && *octet != MARK) {

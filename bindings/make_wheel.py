@@ -1,9 +1,8 @@
 """Makes the wheel of the package p25 and of the shared library that `./prove library` made, for `pip install ./bindings`.
 
-It is the build backend that pyproject.toml names, and needs nothing but Python: no network, and no other package. A source archive
-(sdist) has the library too, since only the kit of Rattle can make that. An editable install (`pip install -e`) uses the files of the
-checkout where they lie. The tag of a wheel is that of the library in it, and on another machine none is made. With SOURCE_DATE_EPOCH in
-the environment, or without it, the same files make the same archives.
+It is the build backend that pyproject.toml names, and needs nothing but Python: no network, and no other package. A source archive (sdist) has the library
+too, because only the kit of Rattle can make that. An editable install (`pip install -e`) uses the files in the checkout. The tag of a wheel is that of the
+library in it, and on another machine none is made. With SOURCE_DATE_EPOCH in the environment, or without it, the same files make the same archives.
 """
 
 import base64
@@ -23,7 +22,7 @@ TOP = os.path.dirname(HERE)
 SUMMARY = "The Project 25 Common Air Interface, by a proved library"
 
 
-# The machines of an ELF file by the names that tags have.
+# The machines of an ELF file, and their names in tags.
 MACHINES = {3: "i686", 40: "armv7l", 62: "x86_64", 183: "aarch64", 243: "riscv64"}
 
 
@@ -34,7 +33,7 @@ def read(path):
 
 
 def beside_or_above(name, above):
-    """Returns the path of a file of this folder, as an unpacked source archive has it, or of its place in a checkout."""
+    """Returns the path of a file: in this folder, as in an unpacked source archive, or in a checkout."""
     beside = f"{HERE}/{name}"
     path = beside if os.path.isfile(beside) else f"{TOP}/{above}"
     if not os.path.isfile(path):
@@ -43,7 +42,7 @@ def beside_or_above(name, above):
 
 
 def version():
-    """Returns the number of the release that lies here."""
+    """Returns the number of this release."""
     return read(beside_or_above("RELEASE", "RELEASE")).decode().split()[-1]
 
 
@@ -72,8 +71,8 @@ def machine_of(octets):
 
 
 def tag_of(octets, here=None):
-    """Returns the tag of a wheel: that of the oldest C library which has all that the shared library asks for, on its machine. The machine has
-    to be this one."""
+    """Returns the tag of a wheel: that of the oldest C library with all symbols that the shared library needs, on its machine. The machine has to be this
+    one."""
     machine, here = machine_of(octets), here or platform.machine()
     if machine != here:
         raise SystemExit(f"libp25.so is for {machine}, and this machine is {here}: a library for it is made by `./prove library` there")
@@ -137,7 +136,7 @@ def write_wheel(folder, tag, files):
 
 
 def build_wheel(wheel_directory, config_settings=None, metadata_directory=None):
-    """Writes the wheel into the folder, and returns its name, as pip asks it."""
+    """Writes the wheel into the folder, and returns its name, for pip."""
     octets = library()
     return write_wheel(wheel_directory, tag_of(octets), {**modules(), "p25/libp25.so": octets})
 

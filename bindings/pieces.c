@@ -1,9 +1,9 @@
-/* Makes the calls that take items at any bit, many at once, or from a stream, on recordings, and compares what they answer with what p25
-   writes of them. Every buffer lies between two pages that nothing may touch, flush with one of them.
+/* Makes the calls that take items at any bit, many at once, or from a stream, on recordings, and compares their results with the output of p25. Every buffer
+   lies between two pages that nothing may touch, flush with one of them.
 
-   usage: pieces FILES          a line of FILES is the paths RECORDING SHOWN REPAIRED BRIDGED: what p25 show, p25 repair and
-                                p25 bridge 123 2 write of the recording
-          pieces edges          each refusal, and what stands beside what is written */
+   usage: pieces FILES          a line of FILES is the paths RECORDING SHOWN REPAIRED BRIDGED: the outputs of p25 show, p25 repair and
+                                p25 bridge 123 2 for the recording
+          pieces edges          each refusal, and the octets beside those written */
 #define _DEFAULT_SOURCE
 #include "guarded.h"
 #include "p25.h"
@@ -13,14 +13,14 @@ enum { LONGEST = 9000 };
 static int failures;
 static const char *recording_name = "edges";
 
-/* Says which check failed, the first twenty times. */
+/* Prints which check failed, the first twenty times. */
 static void check(bool holds, const char *name) {
     if (!holds && failures++ < 20) {
         printf("failed: %s: %s\n", recording_name, name);
     }
 }
 
-/* A file in a buffer of its size that cannot be written. */
+/* Returns a file in a buffer of its size that cannot be written. */
 static struct buffer file_of(const char *path) {
     FILE *file = fopen(path, "rb");
     if (file == NULL) {
@@ -51,7 +51,7 @@ struct lines {
     const char *end;
 };
 
-/* Answers whether a text is the next line, and goes on behind it. */
+/* Returns whether a text is the next line, and moves past it. */
 static bool is_next(struct lines *lines, const char *text, size_t length) {
     const char *end = memchr(lines->at, '\n', (size_t)(lines->end - lines->at));
     bool same = end != NULL && (size_t)(end - lines->at) == length && memcmp(lines->at, text, length) == 0;
@@ -59,7 +59,7 @@ static bool is_next(struct lines *lines, const char *text, size_t length) {
     return same;
 }
 
-/* Answers whether the numbers of two items are the same but for the length of the text. */
+/* Returns whether the numbers of two items are the same but for the length of the text. */
 static bool are_same(const p25_item *a, const p25_item *b) {
     return a->place == b->place && a->bits == b->bits && a->fixes == b->fixes && a->nac == b->nac && a->duid == b->duid && a->kind == b->kind;
 }
@@ -101,7 +101,7 @@ static void by_stream_and_item(const p25_stream *stream, const p25_item *item) {
     }
 }
 
-/* Takes the items that a stream can tell, of which the lines are those of the recording; leaves the text out where it is not asked for. */
+/* Takes the items that a stream has, and compares their lines with those of the recording; leaves the text out if it is not needed. */
 static void take_items(p25_stream *stream, const struct buffer *recording, struct lines *lines, bool with_text) {
     struct buffer told = take(sizeof(p25_item));
     struct buffer text = take(with_text ? P25_TEXT_ROOM : 0);
@@ -134,7 +134,7 @@ static void take_items(p25_stream *stream, const struct buffer *recording, struc
     give_back(&text);
 }
 
-/* A recording by a stream, in pieces by lot. */
+/* Checks a recording by a stream, in random chunks. */
 static void by_stream(const struct buffer *recording, struct lines lines, bool dibits, bool with_text, size_t longest) {
     struct buffer place = take(sizeof(p25_stream));
     p25_stream *stream = (p25_stream *)(void *)place.at;
@@ -164,7 +164,7 @@ static void by_stream(const struct buffer *recording, struct lines lines, bool d
     give_back(&place);
 }
 
-/* A recording by many items at once, in rooms by lot. */
+/* Checks a recording by many items at once, with random capacities. */
 static void by_many(const struct buffer *recording, size_t longest) {
     uint64_t from = 0;
     int32_t told;
@@ -189,7 +189,7 @@ static void by_many(const struct buffer *recording, size_t longest) {
     check(from == 8 * (uint64_t)recording->size, "many at once are all items");
 }
 
-/* The octets of each item, and each unit repaired and bridged where it stands. */
+/* Checks the octets of each item, and each unit repaired and bridged at its position. */
 static void by_place(const struct buffer *recording, const struct buffer *repaired, const struct buffer *bridged) {
     uint8_t *whole = malloc(recording->size + 1);
     size_t sent = 0;
@@ -258,7 +258,7 @@ static int files(const char *path) {
     return failures > 0;
 }
 
-/* A stream whose numbers are by lot: each call answers, and one that fits no stream stays as it is. */
+/* Checks a stream with random numbers: each call returns, and one that fits no stream does not change. */
 static void strange_streams(void) {
     struct buffer place = take(sizeof(p25_stream));
     p25_stream *stream = (p25_stream *)(void *)place.at;
@@ -310,7 +310,7 @@ static void strange_streams(void) {
     give_back(&text);
 }
 
-/* A stream that fits none, and beginnings at a place. */
+/* Checks a stream that fits none, and beginnings at a position. */
 static void beginnings(void) {
     static p25_stream stream;
     static p25_fields fields;
@@ -342,7 +342,7 @@ static void beginnings(void) {
     check(p25_caller_close(&caller, &call) == P25_OUTSIDE, "a caller that fits none is not closed");
 }
 
-/* NULL where the length is 0: it is not followed. */
+/* Checks the calls with NULL and the length 0, which must not follow the pointer. */
 static void no_octets(void) {
     static p25_stream stream;
     p25_item item = {0};
@@ -361,7 +361,7 @@ static void no_octets(void) {
     check(p25_stream_next(&stream, &item, NULL, 0) == P25_ITEM && item.text_length == 0 && item.bits == 144, "an item without room for a text");
 }
 
-/* Marks of each kind, where those calls that take bool would go by the number. */
+/* Erasures of each kind, also those that a call with bool would take by their number. */
 static void marks(void) {
     uint8_t symbols[36] = {0};
     uint8_t some[36] = {0};
@@ -390,7 +390,7 @@ static void marks(void) {
     }
 }
 
-/* Refusals, in their order, and rooms of no size. */
+/* Checks refusals, in their order, and buffers of no capacity. */
 static void edges(void) {
     static const char line[] = "tdu nac=293";
     uint8_t unit[64] = {0};

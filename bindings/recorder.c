@@ -2,7 +2,7 @@
 #include <inttypes.h>
 #include <stdio.h>
 #include <unistd.h>
-static p25_stream heard, stream; /* the recording, and what the follower makes of it */
+static p25_stream heard, stream; /* the recording, and its form after the follower */
 static p25_follower follower;
 static p25_caller caller;
 static FILE *part; /* the data units of the run that is open */
@@ -31,7 +31,7 @@ static void put_unit(const p25_item *item) {
     if (part == NULL && (part = fopen("open.part", "wb")) == NULL) perror("recorder");
     if (part != NULL && n > 0) fwrite(unit, 1, (size_t)n, part);
 }
-static void record(const uint8_t *octets, int32_t n, bool ended) { /* what the follower wrote */
+static void record(const uint8_t *octets, int32_t n, bool ended) { /* the output of the follower */
     static p25_fields fields;
     static p25_call call;
     p25_item item = {0};

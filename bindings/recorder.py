@@ -1,7 +1,7 @@
 import json, p25
 
 def keep(call, units):
-    """Writes the data units of a call to a file, and what it is beside it."""
+    """Writes the data units of a call to a file, and its description beside it."""
     group, source = (call.link.group or 0, call.link.source or 0) if call.link else (0, 0)
     name = f"{call.place}_{group:04x}"
     told = {"place": call.place, "bits": call.bits, "nac": call.nac, "group": group, "source": source,
@@ -13,7 +13,7 @@ def keep(call, units):
     print(f"{name}.bin", flush=True)
 
 def followed(file):
-    """Yields the items of a recording with the data units whose sync is lost."""
+    """Yields the items of a recording, also the data units whose sync is lost."""
     follower, stream = p25.Follower(), p25.Stream()
     for item in p25.Stream().read(file, 4096):
         yield from stream.feed(follower.take(item))

@@ -1,6 +1,6 @@
-/* Prints what `p25 show` prints of standard input: a line for each item of a recording, as soon as the octets read decide it.
+/* Prints the lines of `p25 show` for standard input: a line for each item of a recording, as soon as the octets read decide it.
 
-   usage: show [N]        reads at most N octets at a time, 1 to 65536; 4096 where N is left out
+   usage: show [N]        reads at most N octets at a time, 1 to 65536; 4096 if N is left out
 
    Octets that no item needs any more are dropped, so a recording may be of any length. */
 #include "p25.h"

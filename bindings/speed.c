@@ -1,10 +1,10 @@
-/* Times the calls on words, blocks and checks, and p25_next_item on a recording from a file, for bindings/speed.
+/* Times the calls on codewords, blocks and checks, and p25_next_item on a recording from a file, for bindings/speed.
 
    usage: speed                prints a line NAME|CASE|TENTHS OF A NANOSECOND|SUM for each call, as bench/measures/libfec.c does
           speed FILE           prints the user seconds that the items of the file take, how many there are, and the seconds of
                                their numbers alone, by p25_items and by a stream
 
-   Words are 64 of random information, with random wrong letters at random places; the least of 400 rounds counts. */
+   The codewords are 64 of random information, with random wrong letters at random positions; the least time of 400 rounds counts. */
 #include "../bench/measures/words.h"
 #include "p25.h"
 
@@ -35,7 +35,7 @@ static const struct code codes[3] = {
 static uint8_t symbols[WORDS][LONGEST];
 static bool erased[WORDS][LONGEST];
 
-/* Makes a word of a code, and changes so many of its symbols. */
+/* Makes a codeword, and changes a number of its symbols. */
 static void make_word(const struct code *code, const struct row *row, int j) {
     memset(erased[j], 0, sizeof erased[j]);
     for (int i = 0; i < code->k; i++) {
@@ -106,7 +106,7 @@ static void time_identifiers(const struct row *row) {
 
 static uint8_t octets[1 << 24];
 
-/* Tells the items of octets by p25_items, a thousand a call, or by a stream, and answers the user seconds. */
+/* Finds the items of octets by p25_items, a thousand a call, or by a stream, and returns the user seconds. */
 static double time_numbers(size_t n, bool by_stream) {
     static p25_item items[1000];
     static p25_stream stream;
@@ -127,8 +127,8 @@ static double time_numbers(size_t n, bool by_stream) {
     return (double)(clock() - start) / CLOCKS_PER_SEC;
 }
 
-/* Tells the items of a file, and prints the user seconds and how many they are; and the seconds of their numbers alone, many at once, and
-   by a stream that is given 320 octets at a time. */
+/* Finds the items of a file, and prints the user seconds and their number. It also prints the seconds of their numbers alone, many at once, and by a stream
+   that gets 320 octets at a time. */
 static int time_items(const char *path) {
     static char text[P25_TEXT_ROOM];
     FILE *file = fopen(path, "rb");

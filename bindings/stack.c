@@ -1,9 +1,7 @@
-/* Measures how much stack the calls take: each runs in a thread whose stack is painted before, and the paint that is left is counted.
+/* Measures how much stack the calls take: each runs in a thread whose stack is filled with a pattern, and the rest of the pattern is counted.
 
-   usage: stack FILE           FILE is a recording; prints the octets that the items of it take, its units repaired and bridged, a stream, a unit
-                               built of a line of 127 blocks, the words and blocks, fields, calls, packets and units of values, and what follow, relay
-                               and soft take. A thread
-                               of its own takes some of each */
+   usage: stack FILE           FILE is a recording; prints the octets of stack for its items and the other calls; the thread
+                               itself takes some of each */
 #include "p25.h"
 
 #include <pthread.h>
@@ -28,7 +26,7 @@ static void *items(void *unused) {
     return unused;
 }
 
-/* The units that begin with an octet. */
+/* Repairs the units that begin with an octet. */
 static void *repairs(void *unused) {
     for (size_t at = 0; at < n; at++) {
         p25_repair(octets + at, n - at, unit, sizeof unit);
@@ -43,7 +41,7 @@ static void *bridges(void *unused) {
     return unused;
 }
 
-/* The recording by a stream, of octets and of dibits, and each item by its place. */
+/* Takes the recording by a stream, of octets and of dibits, and each item by its position. */
 static void *streams(void *unused) {
     static p25_stream stream;
     p25_stream_begin(&stream);
@@ -106,7 +104,7 @@ static void *words(void *unused) {
     return unused;
 }
 
-/* The fields of each item, and the calls. */
+/* Takes the fields of each item, and the calls. */
 static p25_fields fields;
 static p25_packet packet;
 
@@ -130,7 +128,7 @@ static void *packets(void *unused) {
     return unused;
 }
 
-/* The longest packet, and each voice unit. */
+/* Builds the longest packet, and each voice unit. */
 static void *values_built(void *unused) {
     packet.head[0] = P25_CONFIRMED;
     packet.head[6] = 127;
@@ -145,7 +143,7 @@ static void *values_built(void *unused) {
     return unused;
 }
 
-/* The recording followed and forwarded, and the levels of the longest unit. */
+/* Follows and relays the recording, and softens the levels of the longest unit. */
 static void *follows(void *unused) {
     static p25_follower follower;
     static uint8_t room[P25_FOLLOW_ROOM];
@@ -161,7 +159,7 @@ static void *follows(void *unused) {
     return unused;
 }
 
-/* Answers how many octets of a painted stack a function took. */
+/* Returns how many octets of a stack with the pattern a function took. */
 static size_t taken(void *(*call)(void *)) {
     void *stack;
     pthread_attr_t how;

@@ -32,7 +32,7 @@ LEVELS = (TOP / "samples/levels.bin").read_bytes()
 
 
 def program(words, octets):
-    """Returns what p25 writes."""
+    """Returns the output of p25."""
     return subprocess.run([TOP / "out/p25", *words], input=octets, stdout=subprocess.PIPE, check=False).stdout
 
 
@@ -134,7 +134,7 @@ def test_two_threads_in_a_call():
     for it in threads:
         it.join()
     found += [*stream.finish()]
-    # Each item came once, and its bits are those at its position: a multiple of what was fed lies there.
+    # Each item came once, and its bits are those at its position, at which a multiple of the input lies.
     assert len({it.place for it in found}) == len(found) and sum(it.bits for it in found) % 8000 == 0
     assert whole
 

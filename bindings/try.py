@@ -1,14 +1,14 @@
-"""Makes the calls of the package p25, one kind in a run, so that bindings/test can compare what they answer. The status is 0 where all is as wanted.
+"""Makes the calls of the package p25, one kind in a run, so that bindings/test can compare their results. The status is 0 if all are as expected.
 
-usage: try.py recording FILE SHOWN REPAIRED BRIDGED      what p25 writes of the file; bridged under 123 with status 2
+usage: try.py recording FILE SHOWN REPAIRED BRIDGED      the outputs of p25 for the file; bridged under 123 with status 2
        try.py build LINES UNITS                          the units of the lines with status 3
        try.py fault LINES                                prints the fault of the one line
-       try.py words                                      standard input is lines CODE RECEIVED, as those of words.txt
-       try.py codes                                      the other calls on words, blocks and checks
-       try.py others                                     refusals, numbers and docstrings
-       try.py values FILE UNITS CALLS                    the lines of its whole units, and what p25 calls writes of it
-       try.py layout                                     the size of each struct of values, and where its parts stand
-       try.py types FILE                                 what is taken for octets, and each way to use a stream, on a recording
+       try.py words                                      standard input is lines CODE RECEIVED, as in words.txt
+       try.py codes                                      the other calls on codewords, blocks and checks
+       try.py others                                     refusals, numbers and doc strings
+       try.py values FILE UNITS CALLS                    the lines of its whole units, and the output of p25 calls for it
+       try.py layout                                     the size of each struct of values, and the offsets of its members
+       try.py types FILE                                 the types that are taken for octets, and each way to use a stream, on a recording
 """
 
 import array
@@ -27,7 +27,7 @@ DUIDS = {"hdu": 0, "tdu": 3, "ldu1": 5, "ldu2": 10, "confirmed": 12, "plain": 12
 
 
 def read(path):
-    """Answers the octets of a file."""
+    """Returns the octets of a file."""
     with open(path, "rb") as file:
         return file.read()
 
@@ -43,7 +43,7 @@ def raised(cause, call, *arguments):
 
 
 def in_pieces(octets, size):
-    """Answers the items of a recording that comes in pieces of a size, and checks that each is one of the whole as it is decided."""
+    """Returns the items of a recording that comes in chunks of a size, and checks that each is an item of the whole as it is decided."""
     stream, found = p25.Stream(), []
     for place in range(0, len(octets), size):
         found += stream.feed(octets[place : place + size])
@@ -93,7 +93,7 @@ def try_fault(lines):
 
 
 def release():
-    """Answers the numbers of the release that lies here."""
+    """Returns the numbers of this release."""
     number = read(os.path.join(os.path.dirname(os.path.dirname(os.path.abspath(__file__))), "RELEASE")).decode().split()[-1]
     return tuple(int(it) for it in f"{number}.0.0".split(".")[:3])
 
@@ -181,7 +181,7 @@ def try_types(path):
         assert item == tuple(item) and hash(item) == hash(item) and repr(item).startswith(f"Item(kind={kind!r}, place={place},")
         assert item.kind == item.kind_id.name.lower() and len(item.octets) == (bits + 7) // 8
         assert item.kind != "unit" or p25.repair_unit(item.octets) and isinstance(item.duid, p25.Duid)
-    # Items that are not taken cost no more than those that are: a feed is as quick with a million octets held as with none.
+    # Items that are not taken cost no more than items that are: a feed is as quick with a million octets held as with none.
     stream, begun = p25.Stream(), time.process_time()
     for _ in range(4000):
         stream.feed(bytes(1000))
@@ -192,7 +192,7 @@ def try_types(path):
 
 
 def unit_line(item):
-    """Answers the line of a whole unit by its values."""
+    """Returns the line of a whole unit by its values."""
     it = item.fields
     assert (it.nac, it.duid) == (item.nac, item.duid)
     if item.duid == p25.Duid.PDU:
@@ -218,7 +218,7 @@ def unit_line(item):
 
 
 def call_line(it):
-    """Answers the line of a call by its values."""
+    """Returns the line of a call by its values."""
     assert it.link is None if it.lc is None else it.link == p25.read_link(it.lc)
     lc, algid = "none" if it.lc is None else it.lc.hex(), "none" if it.algid is None else f"{it.algid:02x}"
     words = f"call at={it.place} bits={it.bits} nac={it.nac:03x} entry={'late' if it.late else 'header'} end={it.end.name.lower()}"
@@ -256,7 +256,7 @@ def try_follows(recording, levels, followed, relayed, softened):
     assert p25.soft(given) == read(softened) == p25.soft([it - 256 * (it > 127) for it in given])
     assert p25.hard_octets(given)[: len(octets)] == p25.hard_octets(bytearray(given))[: len(octets)]
     follower, stream = p25.Follower(), p25.Stream()
-    # What is written as the items come is read as it comes: the same items as of all of it.
+    # The octets that are written as the items come go into a stream as they come, and give the same items as all octets at once.
     found = [it for item in p25.items(octets) for it in stream.feed(follower.take(item))]
     found += [*stream.feed(follower.finish()), *stream.finish()]
     assert found == list(p25.items(read(followed)))
@@ -270,7 +270,7 @@ def try_follows(recording, levels, followed, relayed, softened):
 
 
 def try_layout():
-    """Prints what `values layout` prints."""
+    """Prints the lines of `values layout`."""
     it = p25._calls
     for it in (it.LinkParts, it.FieldParts, it.CallParts, it.CallerState, it.PacketParts, it.FollowerState):
         print(ctypes.sizeof(it), *(getattr(it, part[0]).offset for part in it._fields_))
@@ -288,7 +288,7 @@ CODES = {
 
 
 def read_as(name, received):
-    """Answers what a word is read as, in the form of words.txt."""
+    """Returns the decoding of a word, in the form of words.txt."""
     if name == "bch63":
         reading = p25.read_nid(int(received, 16) << 1)
         return reading and (f"{p25.write_nid(*reading[:2]) >> 1:016X}", reading[2])
@@ -310,7 +310,7 @@ def try_words():
 
 
 def try_codes():
-    """Makes the calls of codes.c that words.txt has not, and what they refuse."""
+    """Makes the calls of codes.c that words.txt does not have, and checks their refusals."""
     for code in (p25.RS_36_20, p25.RS_24_12, p25.RS_24_16):
         word = code.write(range(1, code.k + 1))
         lost = code.n - code.k

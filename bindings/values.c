@@ -1,16 +1,15 @@
-/* Makes the calls of the library that tell values in place of text, one kind in a run, so that bindings/test can compare what they answer
-   with what p25 writes.
+/* Makes the calls of the library for values in place of text, one kind in a run, so that bindings/test can compare their results with the output of p25.
 
    usage: values units                 standard input is a recording: the line of each whole unit, as `p25 build` reads it
           values build STATUS          the octets of each whole unit, built anew of its values
-          values links                 what the link control of each whole unit says
-          values broken                the blocks that fail of each packet that is read, and why one is not
+          values links                 the values of the link control of each whole unit
+          values broken                the failing blocks of each packet that decodes, and why one does not
           values calls                 the calls, as `p25 calls` prints them
-          values layout                the size of each struct, and where its parts stand
-          values edges                 refusals, and what is not written
+          values layout                the size of each struct, and the offsets of its members
+          values edges                 refusals, and the octets that are not written
 
-   Each buffer that a call is given lies between pages that may be neither read nor written: first at the end of its page, then at the
-   beginning. Both times the same is answered. */
+   Each buffer of a call lies between pages that may be neither read nor written: first at the end of its page, then at the beginning. Both times the results
+   are the same. */
 #include "p25.h"
 
 #include <stdio.h>
@@ -23,7 +22,7 @@ enum { MOST = 1 << 25, PAGE = 4096, MARK = 0xA5 };
 
 static int failures;
 
-/* Says which check failed. */
+/* Prints which check failed. */
 static void check(bool holds, const char *name) {
     if (!holds) {
         printf("failed: %s\n", name);
@@ -31,7 +30,7 @@ static void check(bool holds, const char *name) {
     }
 }
 
-/* Room of `size` octets that begins where a page begins, or ends where one ends; the pages before and after are closed. */
+/* Returns a buffer of `size` octets at the beginning of a page, or at the end of one; the pages before and after are closed. */
 static void *between_guards(size_t size, bool at_end) {
     size_t pages = (size + PAGE - 1) / PAGE + (size == 0);
     uint8_t *all = mmap(NULL, (pages + 2) * PAGE, PROT_NONE, MAP_PRIVATE | MAP_ANONYMOUS, -1, 0);
@@ -42,7 +41,7 @@ static void *between_guards(size_t size, bool at_end) {
     return at_end ? all + PAGE + pages * PAGE - size : all + PAGE;
 }
 
-/* What the calls are given, each between guards. */
+/* The buffers of the calls, each between guards. */
 typedef struct {
     uint8_t *octets;
     size_t n;
@@ -80,7 +79,7 @@ static void put_hex(FILE *out, const char *key, const uint8_t *octets, size_t co
     }
 }
 
-/* Tells the next item of the recording. */
+/* Finds the next item of the recording. */
 static bool next(const room *in, uint64_t *from) {
     char none;
     if (p25_next_item(in->octets, in->n, 0, *from, true, in->item, &none, 0) != P25_ITEM) {
@@ -90,7 +89,7 @@ static bool next(const room *in, uint64_t *from) {
     return true;
 }
 
-/* Tells the fields of the item, where it is a whole unit, and checks that there are none else. */
+/* Takes the fields of the item, if it is a whole unit, and checks that there are none else. */
 static bool has_fields(const room *in) {
     memset(in->fields, MARK, sizeof *in->fields);
     int32_t answer = p25_unit_fields(in->octets, in->n, 0, in->item->place, in->fields);
@@ -98,7 +97,7 @@ static bool has_fields(const room *in) {
     return answer == P25_FIELDS;
 }
 
-/* Prints the line of a voice unit, and checks that what its kind has not is 0. */
+/* Prints the line of a voice unit, and checks that the fields that its type does not have are 0. */
 static void put_voice(FILE *out, const p25_fields *it) {
     static const char *const names[16] = {[P25_HDU] = "hdu", [P25_TDU] = "tdu", [P25_LDU1] = "ldu1", [P25_LDU2] = "ldu2", [P25_TDULC] = "tdulc"};
     p25_fields had = *it;
@@ -181,7 +180,7 @@ static void put_packet(FILE *out, const p25_packet *it) {
     }
 }
 
-/* Sets the packet that begins at the item, and answers what is answered. */
+/* Takes the packet that begins at the item, and returns the return value. */
 static int32_t packet_at_item(const room *in) {
     memset(in->packet, MARK, sizeof *in->packet);
     return p25_packet_read(in->octets, in->n, 0, in->item->place, in->packet);
@@ -228,7 +227,7 @@ static void links(const room *in, FILE *out) {
     }
 }
 
-/* Of each item that is a packet, whole or broken, which blocks fail. */
+/* Prints the failing blocks of each item that is a packet, whole or broken. */
 static void broken(const room *in, FILE *out) {
     for (uint64_t from = 0; next(in, &from);) {
         if (in->item->kind > P25_BROKEN || in->item->duid != P25_PDU) {
@@ -316,7 +315,7 @@ static void layout(void) {
 #undef AT
 }
 
-/* Answers whether each of these octets is the mark. */
+/* Returns whether each of these octets is the mark. */
 static bool all_are(const void *from, size_t count) {
     const uint8_t *octet = from;
     while (count > 0 && *octet == MARK) {
@@ -326,7 +325,7 @@ static bool all_are(const void *from, size_t count) {
     return count == 0;
 }
 
-/* What is refused of fields, and writes nothing. */
+/* Checks the fields that are refused, and that nothing is written then. */
 static void field_edges(const room *in) {
     p25_fields it;
     memset(&it, 0, sizeof it);
@@ -358,7 +357,7 @@ static void field_edges(const room *in) {
     check(all_are(in->fields, sizeof *in->fields), "what tells no fields writes nothing");
 }
 
-/* What is refused of packets, and writes nothing. */
+/* Checks the packets that are refused, and that nothing is written then. */
 static void packet_edges(const room *in) {
     p25_packet *it = in->packet;
     memset(it, MARK, sizeof *it);
@@ -392,7 +391,7 @@ static void packet_edges(const room *in) {
     check(p25_build_packet(it, 3, in->unit, P25_UNIT_ROOM) == P25_UNIT_ROOM, "the longest unit");
 }
 
-/* What a caller refuses, and what then stays. */
+/* Checks what a caller refuses, and that its state then does not change. */
 static void caller_edges(const room *in) {
     p25_caller before;
     p25_item item = {.bits = 1728, .nac = 0x293, .duid = P25_LDU1, .kind = P25_BROKEN};
@@ -426,7 +425,7 @@ static void caller_edges(const room *in) {
     check(p25_caller_take(in->caller, &item, &fields, in->call) == P25_OUTSIDE, "a place at 2^60");
 }
 
-/* Makes one kind of calls in rooms that end and that begin at a guard, and prints what the first printed where the second is the same. */
+/* Makes one kind of calls in buffers that end and that begin at a guard, and prints the first output if the second is the same. */
 static void twice(const uint8_t *octets, size_t n, void (*run)(const room *, FILE *, uint8_t), uint8_t status) {
     char *printed[2];
     size_t lengths[2];

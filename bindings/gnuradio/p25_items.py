@@ -1,7 +1,7 @@
 """A block for GNU Radio: it takes soft symbols or dibits, and sends a message for each item of the recording and for each call.
 
 The messages are PDUs: a dictionary, and the octets of the item as a vector of u8. The block needs the package p25 (`pip install ./bindings`),
-and p25_forms.py of the helper scripts, as ./install.sh puts it into share/p25.
+and p25_forms.py of the helper scripts, as ./install.sh installs it in share/p25.
 """
 
 import os
@@ -28,7 +28,7 @@ def _forms():
 
 
 def fields_of(item):
-    """Returns what an item is, as a dictionary: its numbers, its text, and the fields that it has."""
+    """Returns an item as a dictionary: its numbers, its text, and its fields."""
     told = {"kind": item.kind, "place": item.place, "bits": item.bits, "text": item.text}
     if item.nac is not None:
         told.update(nac=item.nac, duid=int(item.duid), fixes=item.fixes)
@@ -44,7 +44,7 @@ def fields_of(item):
 
 
 def call_of(call):
-    """Returns what a call is, as a dictionary."""
+    """Returns a call as a dictionary."""
     told = {key: value for key, value in call._asdict().items() if value is not None}
     told["end"] = call.end.name.lower()
     if call.link is not None:
@@ -64,9 +64,9 @@ def message_of(told, octets):
 class items(gr.sync_block):
     """Divides soft symbols (floats, at any scale and offset) or dibits (octets) into the items of a recording.
 
-    Each item is sent to the port `items` as soon as it is decided, and each call to the port `calls` with the item that decides it. What only
-    the end of the flowgraph decides is sent by `stop`: a block behind may have ended by then, so it is kept in `left` too, as pairs of a port
-    and a message. With `follow` data units whose sync is lost are found by their rhythm.
+    Each item is sent to the port `items` as soon as it is decided, and each call to the port `calls` with the item that decides it. `stop` sends the items
+    that only the end of the flowgraph decides. A later block may have ended by then, so they are kept in `left` too, as pairs of a port and a message. With
+    `follow` data units whose sync is lost are found by their rhythm.
     """
 
     def __init__(self, takes="float", calls=True, follow=False):
@@ -104,7 +104,7 @@ class items(gr.sync_block):
         return True
 
     def _take(self, found):
-        """Takes items that were found: sends them, or what the follower makes of them."""
+        """Takes items that were found, and sends them or their form after the follower."""
         if self._first is None:
             self._send(found)
             return

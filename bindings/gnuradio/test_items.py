@@ -30,12 +30,12 @@ SAMPLES = [(TOP / "samples" / it).read_bytes() for it in ("call.bin", "traffic.b
 
 
 def program(words, octets):
-    """Returns what p25 writes."""
+    """Returns the output of p25."""
     return subprocess.run([TOP / "out/p25", *words], input=octets, stdout=subprocess.PIPE, check=True).stdout
 
 
 def damaged(number):
-    """Returns recording N of 50: one of the samples, with so many bit errors in a hundred at random places."""
+    """Returns recording N of 50: one of the samples, with random bit errors at a BER in %."""
     lot, octets = random.Random(number), bytearray(SAMPLES[number % len(SAMPLES)])
     for _ in range(len(octets) * 8 * (number % 7) // 100):
         at = lot.randrange(8 * len(octets))

@@ -3,7 +3,7 @@
     for item in p25.items(open("call.bin", "rb").read()):
         print(item.place, item.kind, item.value("nac"), item.text)
 
-    python3 -m p25 FILE        prints what `p25 show < FILE` prints; of standard input, where there is no FILE
+    python3 -m p25 FILE        prints the lines of `p25 show < FILE`; without FILE, those of standard input
 
 The shared library libp25.so does the work, and each of its calls is proved to meet its contract; this package, which calls it by ctypes, is
 not proved. A recording is octets, each octet's most significant bit first; its positions (`place`) count bits from the first one.

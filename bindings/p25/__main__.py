@@ -1,4 +1,4 @@
-"""python3 -m p25 [FILE] prints what `p25 show` prints."""
+"""python3 -m p25 [FILE] prints the lines of `p25 show`."""
 
 import sys
 

@@ -1,4 +1,4 @@
-"""The shared library, its calls with their types, and how octets are handed to them."""
+"""The shared library, its calls with their types, and the conversion of octets for them."""
 
 import collections.abc
 import ctypes
@@ -68,9 +68,9 @@ CAUSES: Dict[int, Cause] = {number: Cause(word) for number, word in WORDS.items(
 
 
 def _load() -> ctypes.PyDLL:
-    """Loads the library: of this package, as pip puts it; in lib/ above it, as install.sh does; in out/ of a checkout; or the system's.
+    """Loads the library: of this package, as pip installs it; in lib/ above it, as install.sh does; in out/ of a checkout; or the system's.
 
-    A call takes about a millionth of a second, so it keeps the interpreter's lock: to give that up and take it again costs more.
+    A call takes about a microsecond, so it keeps the interpreter's lock, because giving that up and taking it again costs more.
     """
     here = os.path.dirname(os.path.abspath(__file__))
     for folder in (here, f"{here}/../../..", f"{here}/../../out"):
@@ -153,7 +153,7 @@ def octets_of(octets: "Octets") -> bytes:
 
 
 class View:
-    """Octets at their address, without a copy: the object that has them is kept as long as the view is."""
+    """Octets at their address, without a copy. The object that has them is kept as long as the view is."""
 
     def __init__(self, octets: "Octets") -> None:
         given = checked(octets)

@@ -65,7 +65,7 @@ _bridge = call("p25_bridge")
 
 
 class Item:
-    """A stretch of a recording: a whole unit, or what else stands there. Items lie end to end and cover every bit.
+    """A part of a recording: a whole unit, a broken unit, a false sync, a gap or a cut end. Items lie end to end and cover every bit.
 
     As a tuple it is (kind, place, bits, fixes, nac, duid, text).
     """
@@ -89,37 +89,36 @@ class Item:
 
     @property
     def kind(self) -> str:
-        """What it is, the first word of its text: unit, broken, nounit, gap or cut."""
+        """Returns the first word of its text: unit, broken, nounit, gap or cut."""
         return KINDS[self.kind_id]
 
     @property
     def text(self) -> str:
-        """The line of `p25 show`, without its end. It is made when it is asked for first."""
+        """Returns the line of `p25 show`, without its end. The first use makes it."""
         if self._text is None:
             self._text = _text_of(self._octets, self.place)
         return self._text
 
     @property
     def octets(self) -> bytes:
-        """Its bits as octets, the first bit highest, with zeros after the last where they fill no octet; what `repair_unit` and
-        `bridge_unit` take."""
+        """Returns its bits as octets, the first bit highest, with zeros after the last if they fill no octet; `repair_unit` and `bridge_unit` take these."""
         return _cut(self._octets, self.place % 8, self.bits)
 
     @property
     def fields(self) -> "Optional[Fields]":
-        """Of a whole unit its fields by their names, as item.fields.lc; else None. No text is made for them."""
+        """Returns the fields of a whole unit by their names, as item.fields.lc; else None. No text is made for them."""
         from ._values import fields_at
 
         return fields_at(self._octets, self.place) if self.kind_id == Kind.UNIT else None
 
     @property
     def line(self) -> str:
-        """Of a whole data unit the words of its text that `build` takes; else ""."""
+        """Returns the words of the text of a whole data unit that `build` takes; else ""."""
         return self.text.split(" ", 5)[-1] if self.kind_id == Kind.UNIT else ""
 
     @property
     def link(self) -> "Optional[LinkControl]":
-        """Of a whole unit with link control (LC), an LDU1 or a TDULC, what it says; else None."""
+        """Returns the link control (LC) of a whole LDU1 or TDULC; else None."""
         from ._values import read_link
 
         fields = self.fields if self.duid in (Duid.LDU1, Duid.TDULC) else None
@@ -127,13 +126,13 @@ class Item:
 
     @property
     def packet(self) -> "Optional[Packet]":
-        """Of a unit of a packet (PDU) the packet, also where blocks of it fail; None where none is read."""
+        """Returns the packet of a packet unit (PDU), also if blocks of it fail; None if no packet decodes."""
         from ._values import packet_at
 
         return packet_at(self._octets, self.place) if self.duid == Duid.PDU else None
 
     def value(self, key: str) -> Optional[str]:
-        """Returns the text of the value that stands in the line after KEY=, as item.value("lc"), or None."""
+        """Returns the text of the value after KEY= in the line, as item.value("lc"), or None."""
         for word in self.text.split(" "):
             if word.startswith(f"{key}="):
                 return word[len(key) + 1 :]
@@ -164,22 +163,22 @@ class Item:
 
 
 def _text_at(address: Any, length: int, begin: int, place: int, ended: bool) -> str:
-    """Returns the text of the item at a place of octets, the first of which stands at `begin`."""
+    """Returns the text of the item at a position of octets; the first octet begins at bit `begin`."""
     parts, text = ItemParts(), ctypes.create_string_buffer(TEXT_ROOM)
     _next_item(address, length, begin, place, ended, ctypes.byref(parts), text, TEXT_ROOM)
     return ctypes.string_at(text, parts.text_length).decode("ascii")
 
 
 def _text_of(octets: bytes, place: int) -> str:
-    """Returns the text of the item at a place, by the octets that hold its bits and those that decide it."""
+    """Returns the text of the item at a position, from the octets with its bits and those that decide it."""
     return _text_at(octets, len(octets), place - place % 8, place, True)
 
 
-# The numbers of an item as p25_items writes them, and how many items one call is asked for.
+# The numbers of an item as p25_items writes them, and the most items of one call.
 _ROW = struct.Struct("=QIIIHBB")
 assert _ROW.size == ctypes.sizeof(ItemParts)
 _rows_of, _AT_ONCE = _ROW.iter_unpack, 1024
-# What p25_items is given is made ready here: to convert all of it anew costs more than to tell a few items.
+# The arguments of p25_items are prepared here, because converting all of them anew costs more than finding a few items.
 _many_items: Any = library["p25_items"]
 _length_of, _place_of, _flag_of = SIZE.from_param, U64.from_param, ctypes.c_bool.from_param
 _FIRST, _WITHIN, _ROOM = _place_of(0), tuple(map(_place_of, range(8))), _length_of(_AT_ONCE)
@@ -187,10 +186,10 @@ _OPEN, _ENDED = _flag_of(False), _flag_of(True)
 _joined, _new = b"".join, Item.__new__
 
 
-# Of each octet its two lowest bits, at each of the four positions of an octet.
+# The two lowest bits of each octet, at each of the four positions of an octet.
 _DIBIT_AT = tuple(bytes((it & 3) << shift for it in range(256)) for shift in (6, 4, 2, 0))
-# Items that were found and not taken: their numbers, the octets, what a call is given for these, the bit of the recording at which they begin,
-# whether no more follow, whether they may have more items, and the bit at which the last of these items ends.
+# Items that were found and not taken: their numbers, the octets, the argument of a call for these, and the bit of the recording at which they begin. Then
+# whether no more octets follow, whether these may have more items, and the bit at which the last of these items ends.
 _Batch = Tuple[Iterator[Any], "Union[bytes, memoryview]", Any, int, Any, bool, int]
 
 
@@ -204,10 +203,10 @@ class Stream:
     """A recording that comes in chunks.
 
     `feed` takes the next octets, `feed_dibits` the next dibits and `feed_levels` the next soft symbols, in any number; `finish` states that
-    none follow. Each yields the items that are decided then, as the library decides them: a data unit as soon as its last bit is there.
+    none follow. Each yields the items that are decided then, as the library decides them, such as a data unit with its last bit.
     Items that a caller does not take come with the next call. Octets that no item needs any more are not kept.
 
-    In a `with`, the end of the block finishes the stream. If items are left then, a warning says so, and `finish` yields them.
+    In a `with`, the end of the block finishes the stream. If items are left then, there is a warning, and `finish` yields them.
 
     One stream is for one thread at a time: Error(threads) if two use it at once. Streams of their own in several threads do not meet.
     """
@@ -216,7 +215,7 @@ class Stream:
         self._batch: _Batch = (iter(()), b"", b"", 0, _OPEN, False, 0)
         # The bit after the last item that was taken.
         self._reached = 0
-        # Chunks that came since they were looked at, the end as an empty one, and dibits that wait for their octet.
+        # Chunks that were not examined yet, the end as an empty one, and dibits that wait for their octet.
         self._pieces: List[bytes] = []
         self._dibits = b""
         self._ended = False
@@ -246,15 +245,14 @@ class Stream:
         return self._items()
 
     def feed_levels(self, levels: "Octets") -> Iterator[Item]:
-        """Takes soft symbols, as `hard_octets` does, of any number, and does with the dibits that they are nearest to what `feed_dibits`
-        does. `Softener` decodes broken packets from them too."""
+        """Takes soft symbols, as `hard_octets` does, of any number, and feeds the dibits that they are nearest to, as `feed_dibits` does. `Softener` also
+        decodes broken packets from them."""
         from ._signals import hard_dibits
 
         return self.feed_dibits(hard_dibits(levels))
 
     def finish(self) -> Iterator[Item]:
-        """Returns an iterator over all items that are left, the last of which ends where the recording does. Dibits that fill no octet are
-        left out."""
+        """Returns an iterator over all items that are left; the last one ends at the end of the recording. Dibits that fill no octet are left out."""
         if not self._ended:
             self._append(b"")
             self._ended, self._dibits = True, b""
@@ -293,7 +291,7 @@ class Stream:
                 return
 
     def _find(self) -> bool:
-        """Finds the next items, and returns whether there were octets to look at."""
+        """Finds the next items, and returns whether there were octets to examine."""
         if not self._lock.acquire(False):
             raise Error(Cause.THREADS)
         try:
@@ -301,7 +299,7 @@ class Stream:
             if not more:
                 if not self._pieces:
                     return False
-                # What no item needs any more is dropped.
+                # Octets that no item needs any more are dropped.
                 octets = address = _joined((octets[at >> 3 :], *self._pieces))
                 begin += at & -8
                 at &= 7
@@ -322,16 +320,15 @@ class Stream:
             self._lock.release()
 
     def read(self, file: BinaryIO, size: int = 65536) -> Iterator[Item]:
-        """Yields the items of an open file of octets as they are decided, up to its end, and finishes the stream. Of a file that has `read1`,
-        as a buffered one, it takes what is there, so a live input waits for no further octets."""
+        """Yields the items of an open file of octets as they are decided, up to its end, and finishes the stream. If the file has `read1`, as a buffered one
+        has, it takes the octets that are there, so a live input waits for no further octets."""
         take: Callable[[int], bytes] = getattr(file, "read1", file.read)
         for piece in iter(partial(take, size), b""):
             yield from self.feed(piece)
         yield from self.finish()
 
     async def aread(self, reader: Any, size: int = 65536) -> AsyncIterator[Item]:
-        """Yields the items of what comes from a reader with an asynchronous `read(size)`, as asyncio.StreamReader, up to its end, and
-        finishes the stream."""
+        """Yields the items of a reader with an asynchronous `read(size)`, as asyncio.StreamReader, up to its end, and finishes the stream."""
         while True:
             piece = await reader.read(size)
             if not piece:
@@ -380,38 +377,37 @@ def _unit(function: Any, *arguments: Any) -> bytes:
 def build(line: "Union[str, Octets]", status: int = 0) -> bytes:
     """Returns the octets of the unit of a line, as `p25 build STATUS` reads it, a str or octets without an end of the line.
 
-    The status symbol, 0 to 3, stands everywhere in it. Error has the cause, as `p25 build` prints it: long, form, kind, key or value; or
-    status, where the status symbol is none.
+    All its status symbols are `status`, 0 to 3. Error has the cause, as `p25 build` prints it: long, form, kind, key or value; or status, if that is no
+    status symbol.
     """
     octets = line.encode("utf-8", "surrogateescape") if isinstance(line, str) else octets_of(line)
     return _unit(_build, octets, len(octets), number_of(status, 3, Cause.STATUS))
 
 
 def repair_unit(octets: "Octets") -> bytes:
-    """Returns the unit with which the octets begin as it was sent. Error(unit) where they begin with no whole unit."""
+    """Returns the unit with which the octets begin as it was transmitted. Error(unit) if they begin with no whole unit."""
     given = octets_of(octets)
     return _unit(_repair, given, len(given))
 
 
 def bridge_unit(octets: "Octets", nac: int, status: int) -> bytes:
-    """Returns the unit with which the octets begin, under a network access code (NAC), 0 to 4095, and with a status symbol, 0 to 3,
-    everywhere.
+    """Returns the unit with which the octets begin, under a network access code (NAC), 0 to 4095, and with all status symbols the same, 0 to 3.
 
-    Error has the cause nac, status, or unit where they begin with no whole unit.
+    Error has the cause nac or status, or unit if they begin with no whole unit.
     """
     given, nac, status = octets_of(octets), number_of(nac, 4095, Cause.NAC), number_of(status, 3, Cause.STATUS)
     return _unit(_bridge, given, len(given), nac, status)
 
 
 def _cut(octets: bytes, place: int, bits: int) -> bytes:
-    """Returns the bits from a place on as octets, with zeros after them where they fill no octet."""
+    """Returns the bits from a position on as octets, with zeros after them if they fill no octet."""
     first, last = place // 8, (place + bits + 7) // 8
     number = int.from_bytes(octets[first:last], "big") >> (8 * last - place - bits) & ((1 << bits) - 1)
     return (number << -bits % 8).to_bytes((bits + 7) // 8, "big")
 
 
 def put_bits(octets: bytearray, place: int, unit: bytes, bits: int) -> None:
-    """Puts so many bits of a unit into octets at a place."""
+    """Writes a number of bits of a unit into octets at a position."""
     first, last = place // 8, (place + bits + 7) // 8
     after = 8 * last - place - bits
     mask = ((1 << bits) - 1) << after
@@ -420,7 +416,7 @@ def put_bits(octets: bytearray, place: int, unit: bytes, bits: int) -> None:
 
 
 def repair(octets: "Octets") -> bytes:
-    """Returns the recording in which each whole unit is as it was sent, as `p25 repair` writes it. All other bits stay."""
+    """Returns the recording with each whole unit as it was transmitted, as `p25 repair` writes it. All other bits stay."""
     given = octets_of(octets)
     repaired = bytearray(given)
     for item in items(given):
@@ -430,14 +426,14 @@ def repair(octets: "Octets") -> bytes:
 
 
 def bridge(octets: "Octets", nac: int, status: int) -> bytes:
-    """Returns the whole units of a recording one after the other, under a network access code (NAC), 0 to 4095, and with a status
-    symbol, 0 to 3, everywhere, as `p25 bridge NAC STATUS` writes them. Error has the cause nac or status."""
+    """Returns the whole units of a recording one after the other, as `p25 bridge NAC STATUS` writes them. They have the network access code (NAC), 0 to 4095,
+    and the one status symbol, 0 to 3. Error has the cause nac or status."""
     given, nac, status = octets_of(octets), number_of(nac, 4095, Cause.NAC), number_of(status, 3, Cause.STATUS)
     return b"".join(bridge_unit(it.octets, nac, status) for it in items(given) if it.kind_id == Kind.UNIT)
 
 
 def main(words: List[str]) -> int:
-    """Prints what `p25 show` prints of a file or of standard input, and returns the status."""
+    """Prints the lines of `p25 show` of a file or of standard input, and returns the status."""
     if len(words) > 1 or words[:1] in (["-h"], ["--help"]):
         print("usage: python3 -m p25 [FILE]", file=sys.stderr)
         return 1

@@ -1,4 +1,4 @@
-"""Recordings from levels, followed by their rhythm, and forwarded in place."""
+"""Recordings from soft-symbol levels, with lost syncs restored, and forwarded in place."""
 
 import ctypes
 from typing import TYPE_CHECKING, Any, Iterable, Iterator, Union
@@ -20,30 +20,29 @@ _follower_begin_at = call("p25_follower_begin_at")
 _follower_take = call("p25_follower_take")
 _follower_finish = call("p25_follower_finish")
 
-# Of each octet, as a level in two's complement, its dibit, and this at each of the four positions of an octet.
+# The dibit of each octet, as a level in two's complement, at each of the four positions of an octet.
 _HARD = bytes(_level_dibit(it - 256 * (it > 127)) for it in range(256))
 _PLACED = tuple(bytes(it << shift for it in _HARD) for shift in (6, 4, 2, 0))
 
 
 class Follower:
-    """Writes the units of a recording whose sync is lost where they lie end to end after others: `take` each item in its turn, gaps too, and
-    at the end `finish`. What they return is, joined, what `p25 follow` writes; it can be fed to a `Stream` as it comes. The first item is at bit
-    `at`."""
+    """Restores the lost syncs of units that lie end to end after others: `take` each item in its turn, gaps too, and at the end `finish`. The octets that
+    they return are, joined, the output of `p25 follow`; they can be fed to a `Stream` as they come. The first item is at bit `at`."""
 
     def __init__(self, at: int = 0) -> None:
         self._state, self._room = FollowerState(), ctypes.create_string_buffer(FOLLOW_ROOM)
         _follower_begin_at(ctypes.byref(self._state), number_of(at, (1 << 59), Cause.PLACE))
 
     def take(self, item: Item) -> bytes:
-        """Takes the next item and returns the octets that are settled by it. Error(place) where the item does not begin where the one before it
-        ended, the first at bit 0."""
+        """Takes the next item and returns the octets that it decides. Error(place) if the item does not begin at the end of the one before it, the first at
+        bit 0."""
         octets, told = item._octets, item_struct(item)
         return self._answered(
             _follower_take(ctypes.byref(self._state), octets, len(octets), item.place - item.place % 8, ctypes.byref(told), self._room, FOLLOW_ROOM)
         )
 
     def finish(self) -> bytes:
-        """Returns the octets that were kept back. The follower is then as a new one."""
+        """Returns the octets that were held back. The follower is then as a new one."""
         return self._answered(_follower_finish(ctypes.byref(self._state), self._room, FOLLOW_ROOM))
 
     def _answered(self, answer: int) -> bytes:
@@ -60,14 +59,14 @@ def _followed(octets: "Octets") -> Iterator[bytes]:
 
 
 def follow(octets: "Octets") -> bytes:
-    """Returns the recording with the units found by their rhythm, as `p25 follow` writes it: with as many bits, of which only the sync and the
-    identifier of such units are changed."""
+    """Returns the recording with lost syncs restored, as `p25 follow` writes it: with as many bits, of which only the syncs and NIDs of such units are
+    changed."""
     return b"".join(_followed(octets))
 
 
 def relay(octets: "Octets", nac: int, status: int) -> bytes:
-    """Returns the recording with each unit in its place under a network access code (NAC), 0 to 4095, and with a status symbol, 0 to 3,
-    everywhere, as `p25 relay NAC STATUS` writes it. Error has the cause nac or status."""
+    """Returns the recording as `p25 relay NAC STATUS` writes it, with each unit at its position. The units have the network access code (NAC), 0 to 4095, and
+    the one status symbol, 0 to 3. Error has the cause nac or status."""
     given, nac, status = octets_of(octets), number_of(nac, 4095, Cause.NAC), number_of(status, 3, Cause.STATUS)
     relayed, room = bytearray(given), ctypes.create_string_buffer(UNIT_ROOM)
     for item in items(given):
@@ -79,7 +78,7 @@ def relay(octets: "Octets", nac: int, status: int) -> bytes:
 
 
 def _levels_of(levels: "Levels") -> bytes:
-    """Returns levels as octets in two's complement. Error(letters) where one is no number from -128 to 127."""
+    """Returns levels as octets in two's complement. Error(letters) if one is no number from -128 to 127."""
     if isinstance(levels, (bytes, bytearray, memoryview)):
         return octets_of(levels)
     try:
@@ -95,7 +94,7 @@ def _levels_of(levels: "Levels") -> bytes:
 def hard_octets(levels: "Levels") -> bytes:
     """Returns the octets of the dibits that levels are nearest to, four in each; a last octet that they do not fill ends in dibits 00.
 
-    Levels are numbers from -128 to 127, or octets in two's complement: 96 stands for 01, 32 for 00, -32 for 10 and -96 for 11.
+    Levels are numbers from -128 to 127, or octets in two's complement: 96 is 01, 32 is 00, -32 is 10 and -96 is 11.
     """
     given = _levels_of(levels)
     return packed(given + b"\x20" * (-len(given) % 4), _PLACED)
@@ -107,8 +106,8 @@ def hard_dibits(levels: "Levels") -> bytes:
 
 
 def soften(levels: "Levels") -> bytes:
-    """Returns the octets of the levels of one unit, at most 12,960. The blocks that fail of a broken packet (PDU) are those that lie nearest to
-    the levels. Error(length) where there are more levels."""
+    """Returns the octets of the levels of one unit, at most 12,960. Each failing block of a broken packet (PDU) becomes the block that is nearest to the
+    levels. Error(length) if there are more levels."""
     given, room = _levels_of(levels), ctypes.create_string_buffer(UNIT_ROOM)
     answer = _soften(given, len(given), room, UNIT_ROOM)
     if answer < 0:
@@ -118,7 +117,7 @@ def soften(levels: "Levels") -> bytes:
 
 class Softener:
     """Decodes broken packets from the soft symbols of a recording that come in chunks: `feed` takes the next levels, in any number, and
-    `finish` states that none follow. The octets that they return are, joined, what `p25 soft` writes; a `Stream` takes them as they come."""
+    `finish` states that none follow. The octets that they return are, joined, the output of `p25 soft`; a `Stream` takes them as they come."""
 
     def __init__(self) -> None:
         self._stream = Stream()
@@ -127,7 +126,7 @@ class Softener:
         self._waiting = b""
 
     def feed(self, levels: "Levels") -> bytes:
-        """Takes levels and returns the octets that are settled by them. Error(finished) after `finish`."""
+        """Takes levels and returns the octets that they decide. Error(finished) after `finish`."""
         given = self._waiting + _levels_of(levels)
         whole = len(given) // 4 * 4
         return self._settled(given[:whole], given[whole:], False)

@@ -1,4 +1,4 @@
-"""What units, calls and packets say, as values: no text is made for them."""
+"""The fields of units, calls and packets as values; no text is made for them."""
 
 import ctypes
 import enum
@@ -14,7 +14,7 @@ if TYPE_CHECKING:
 
 
 class LinkKind(enum.IntEnum):
-    """What link control (LC) is of, by its first octet."""
+    """The type of link control (LC), by its first octet."""
 
     OTHER = _calls.LINK_OTHER
     """All else, which is not interpreted."""
@@ -36,7 +36,7 @@ class CallEnd(enum.IntEnum):
 
 
 class LinkControl(NamedTuple):
-    """Link control (LC): who speaks to whom. What its kind has not is None."""
+    """Link control (LC): talker and called. A value that its type does not have is None."""
 
     octets: bytes
     """The nine octets."""
@@ -55,7 +55,7 @@ class LinkControl(NamedTuple):
 
 
 class Fields(NamedTuple):
-    """The fields of a unit by their names. What its kind has not is None."""
+    """The fields of a unit by their names. A field that its type does not have is None."""
 
     nac: int
     """The network access code (NAC), 0 to 4095."""
@@ -80,8 +80,8 @@ class Fields(NamedTuple):
 
 
 class Call(NamedTuple):
-    """A call: a longest run of voice units without a break inside, with voice in it, as `p25 calls` tells it. It ends at a
-    terminator, before a header, a packet or another network, and where more than 3,456 bits lie between two units; not by a new speaker."""
+    """A call: a longest run of voice units without a break inside, with voice in it, as `p25 calls` prints it. It ends at a terminator, before a header, a
+    packet or another network, and if more than 3,456 bits lie between two units; not by a new speaker."""
 
     place: int
     """The bit at which its first unit begins."""
@@ -104,7 +104,7 @@ class Call(NamedTuple):
 
     @property
     def link(self) -> Optional[LinkControl]:
-        """What its link control states."""
+        """Returns its link control as values."""
         return None if self.lc is None else read_link(self.lc)
 
     def has(self, item: Item) -> bool:
@@ -159,7 +159,7 @@ _build_packet = call("p25_build_packet")
 
 
 def read_link(lc: "Octets") -> LinkControl:
-    """Returns what the nine octets of link control (LC) say. Error(length) where there are more or fewer."""
+    """Returns the values of the nine octets of link control (LC). Error(length) if there are more or fewer."""
     octets, link = exactly(lc, 9), LinkParts()
     _link_read(octets, ctypes.byref(link))
     if link.kind == LinkKind.GROUP:
@@ -170,13 +170,13 @@ def read_link(lc: "Octets") -> LinkControl:
 
 
 def _told_fields(octets: bytes, place: int) -> Optional[FieldParts]:
-    """Returns the fields of the whole unit at a place, by the octets that hold its bits."""
+    """Returns the fields of the whole unit at a position, from the octets with its bits."""
     told = FieldParts()
     return told if _unit_fields(octets, len(octets), place - place % 8, place, ctypes.byref(told)) == _calls.FIELDS else None
 
 
 def fields_at(octets: bytes, place: int) -> Optional[Fields]:
-    """Returns the fields of the whole unit at a place, by the octets that hold its bits, or None where there is none."""
+    """Returns the fields of the whole unit at a position, from the octets with its bits, or None if there is none."""
     told = _told_fields(octets, place)
     if told is None:
         return None
@@ -196,7 +196,7 @@ def fields_at(octets: bytes, place: int) -> Optional[Fields]:
 
 
 def packet_at(octets: bytes, place: int) -> Optional[Packet]:
-    """Returns the packet of the unit at a place, by the octets that hold its bits, or None where none is read."""
+    """Returns the packet of the unit at a position, from the octets with its bits, or None if none decodes."""
     told = PacketParts()
     if _packet_read(octets, len(octets), place - place % 8, place, ctypes.byref(told)) < 0:
         return None
@@ -230,8 +230,8 @@ def _written(function: Any, given: ctypes.Structure, status: int) -> bytes:
 
 
 def build_fields(fields: Fields, status: int = 0) -> bytes:
-    """Returns the octets of the voice unit of fields, with the status symbol, 0 to 3, everywhere. Its `duid` says which fields are looked
-    at; one that is None is of zeros. Error has the cause nac, status, duid where no voice unit has it, or length."""
+    """Returns the octets of the voice unit of fields, with all status symbols `status`, 0 to 3. Its `duid` determines which fields are used; one that is None
+    is of zeros. Error has the cause nac, status, length, or duid if no voice unit has it."""
     given = FieldParts(nac=number_of(fields.nac, 4095, Cause.NAC), duid=number_of(fields.duid, 15, Cause.DUID))
     for name, most in (("kid", 65535), ("tgid", 65535), ("mfid", 255), ("algid", 255)):
         setattr(given, name, number_of(getattr(fields, name) or 0, most, Cause.VALUE))
@@ -245,11 +245,11 @@ def build_fields(fields: Fields, status: int = 0) -> bytes:
 
 
 def build_packet(nac: int, head: "Octets", data: "Octets" = b"", serials: "Optional[Iterable[int]]" = None, status: int = 0) -> bytes:
-    """Returns the octets of the unit of a packet (PDU), with the status symbol, 0 to 3, everywhere.
+    """Returns the octets of the unit of a packet (PDU), with all status symbols `status`, 0 to 3.
 
-    `head` are the ten octets of its header without the check. `data` are of a confirmed packet 16 octets for each block, whose serial numbers
-    are `serials`, or 0, 1, 2 and so on; of another packet the octets before the packet CRC, twelve for each block less four. Error has the
-    cause nac, status, length, serial, or packet where the format is none of 0x16, 0x15 and 0x03.
+    `head` are the ten octets of its header without the check. `data` of a confirmed packet has 16 octets for each block, whose serial numbers are `serials`,
+    or 0, 1, 2 and so on; `data` of another packet has the octets before the packet CRC, twelve for each block less four. Error has the cause nac, status,
+    length or serial, or packet if the format is none of 0x16, 0x15 and 0x03.
     """
     header = exactly(head, 10)
     blocks, is_confirmed = header[6] % 128, header[0] % 32 == _calls.CONFIRMED
@@ -285,28 +285,28 @@ class Caller:
 
     @property
     def is_open(self) -> bool:
-        """Whether a run of voice units is open that a further one may still join."""
+        """Returns whether a run of voice units is open that a further one may still join."""
         return bool(self._state.is_open)
 
     @property
     def run(self) -> Optional[Call]:
-        """The run of voice units that is open: a call once its `links` are above 0. None if there is none."""
+        """Returns the open run of voice units, or None: it is a call once its `links` are above 0."""
         return _call_of(self._state.run) if self.is_open else None
 
     def take(self, item: Item) -> Optional[Call]:
-        """Takes the next item and returns the call that ends, or None: it ends with this item, its terminator, or with the data unit before, if
-        there is a break after that one. Error(place) if the item does not begin where the one before it ended."""
+        """Takes the next item and returns the call that ends, or None. The call ends with this item, its terminator, or with the data unit before, if there
+        is a break after that one. Error(place) if the item does not begin at the end of the one before it."""
         told = item_struct(item)
         fields = _told_fields(item._octets, item.place) if item.kind_id == Kind.UNIT else None
         answer = _caller_take(ctypes.byref(self._state), ctypes.byref(told), ctypes.byref(fields or self._none), ctypes.byref(self._call))
         return self._answered(answer)
 
     def close(self) -> Optional[Call]:
-        """Ends the run that is open, and goes on: returns the call that is open, or None. The next item begins where the last one ended."""
+        """Ends the open run, and returns its call, or None. The caller goes on: the next item begins at the end of the last one."""
         return self._answered(_caller_close(ctypes.byref(self._state), ctypes.byref(self._call)))
 
     def finish(self) -> Optional[Call]:
-        """Returns the call that is still open, or None. The caller is then as a new one that begins at bit 0."""
+        """Returns the open call, or None. The caller is then as a new one that begins at bit 0."""
         return self._answered(_caller_finish(ctypes.byref(self._state), ctypes.byref(self._call)))
 
     def _answered(self, answer: int) -> Optional[Call]:

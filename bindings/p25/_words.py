@@ -1,4 +1,4 @@
-"""Codewords, blocks, CRCs and network identifiers."""
+"""Codewords, blocks, CRCs and network identifiers (NID)."""
 
 import ctypes
 from typing import TYPE_CHECKING, Iterable, Optional, Tuple, TypeVar
@@ -13,7 +13,7 @@ Word = TypeVar("Word")
 
 
 def _reading(word: Word, answer: int) -> Optional[Tuple[Word, int]]:
-    """Returns a codeword with what its decoding returned, or None if it is uncorrectable."""
+    """Returns a codeword with the return value of its decoding, or None if it is uncorrectable."""
     if answer == NO_LETTERS:
         raise Error(Cause.LETTERS)
     return None if answer < 0 else (word, answer)
@@ -31,7 +31,7 @@ class SymbolCode:
     def read(self, symbols: "Octets", erased: Optional[Iterable[object]] = None) -> Optional[Tuple[bytes, int]]:
         """Returns the codeword that a received word decodes to, and how many symbols that changes; None if it is uncorrectable.
 
-        At most (n - k) / 2 symbol errors are corrected. With `erased`, n truth values, the symbols where it is true are erased: then
+        At most (n - k) / 2 symbol errors are corrected. With `erased`, n truth values, the symbols with a true value are erased: then
         twice the errors among the others, and the erasures, are at most n - k. Error(letters) if an octet is above 63, an erased one too,
         and Error(length) if there are not n of them.
         """
@@ -81,8 +81,8 @@ class NumberCode:
 
 
 class BlockCode:
-    """A trellis code of packets (PDU). A block of 12 octets at half rate, or of 18 at three-quarter rate, is sent as 196 bits in 25 octets,
-    the last four bits of which are none of the block."""
+    """A trellis code of packets (PDU). A block of 12 octets at half rate, or of 18 at three-quarter rate, is transmitted as 196 bits in 25 octets; the last
+    four bits of these are not of the block."""
 
     def __init__(self, name: str, length: int) -> None:
         self.length = length
@@ -92,16 +92,16 @@ class BlockCode:
         self._write = call(f"p25_{name}_write")
 
     def read(self, bits: "Octets") -> Tuple[bytes, int]:
-        """Returns the octets of the first path that differs from the bits, 25 octets, in fewest, and in how many bits it differs. The
-        check of the block decides whether they are right. Error(length) if there are not 25 octets."""
+        """Returns the octets of the first path that differs from the bits, 25 octets, in the fewest, and in how many bits it differs. The check of the block
+        decides whether they are correct. Error(length) if there are not 25 octets."""
         octets = ctypes.create_string_buffer(self.length)
         distance = self._read(exactly(bits, 25), octets)
         return octets.raw, distance
 
     def read_levels(self, levels: Iterable[int]) -> Tuple[bytes, int]:
-        """Returns the octets of the first path that is nearest to 98 levels, and how far it is: the sum of the squares of what each level
-        is off. A level is a number from -128 to 127 for two bits: 96 is 01, 32 is 00, -32 is 10 and -96 is 11. Error(length)
-        if there are not 98, and Error(letters) if one is no such number."""
+        """Returns the octets of the first path that is nearest to 98 levels, and its distance: the sum of the squares of the differences of the levels. A
+        level is a number from -128 to 127 for two bits: 96 is 01, 32 is 00, -32 is 10 and -96 is 11. Error(length) if there are not 98, and Error(letters) if
+        one is no such number."""
         given = list(levels)
         if len(given) != 98:
             raise Error(Cause.LENGTH)
@@ -134,8 +134,8 @@ _crc32 = call("p25_crc32")
 
 
 def read_nid(bits: int) -> Optional[Tuple[int, int, int]]:
-    """Returns the network access code (NAC) and the data unit identifier (DUID) of a network identifier (NID), 64 received bits, and
-    how many of the first 63 were wrong, at most 11; None where more are. Error(letters) if the number has more than 64 bits."""
+    """Returns the network access code (NAC) and data unit identifier (DUID) of 64 received bits of a network identifier (NID), and
+    the number of bit errors in the first 63, at most 11; None if there are more. Error(letters) if the number has more than 64 bits."""
     nac, duid = U16(), U8()
     answer = _nid_read(number_of(bits, (1 << 64) - 1, Cause.LETTERS), ctypes.byref(nac), ctypes.byref(duid))
     return None if answer < 0 else (nac.value, duid.value, answer)
