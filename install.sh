@@ -1,13 +1,12 @@
 #!/bin/sh
-# Puts the proved program under a folder, with its companions, man pages, completions, pages and samples; where ./prove library has made
-# the library too, with that, its header, what pkg-config tells of it, and the module for Python. Where something is not made of the
-# sources that lie here, ./prove makes it first; where all is, neither the kit nor a compiler is needed.
+# Installs the proved program below a folder, with its helper scripts, man pages, completions, pages and samples. If ./prove library has made the library,
+# that is installed too, with its header, its file for pkg-config, and the module for Python. If something is not made from the sources that are here, ./prove
+# makes it first; if all is, neither the kit nor a compiler is needed.
 #
-# usage: ./install.sh PREFIX               puts all under PREFIX
-#        ./install.sh --uninstall PREFIX   takes away what an install put there, and the folders that are empty then
+# usage: ./install.sh PREFIX               installs all below PREFIX
+#        ./install.sh --uninstall PREFIX   removes the files of an install, and the folders that are empty then
 #
-# With DESTDIR in the environment all is put under DESTDIR/PREFIX, as package makers want it. PREFIX/share/p25/installed lists
-# what was put.
+# If DESTDIR is in the environment, all is installed below DESTDIR/PREFIX, for the makers of packages. PREFIX/share/p25/installed lists the files.
 set -eu
 unset CDPATH
 LC_ALL=C
@@ -33,7 +32,7 @@ top=$(cd -- "$(dirname -- "$0")" && pwd)
 root=${DESTDIR-}$1
 list=share/p25/installed
 
-# Takes away each file of the list, and then each folder that held one and is empty.
+# Removes each file of the list, and then each folder that had one and is empty.
 take_away() {
     if [ ! -f "$root/$list" ]; then
         echo "install.sh: nothing to take away: there is no $root/$list" >&2
@@ -42,7 +41,7 @@ take_away() {
     paths=$(cat -- "$root/$list" && echo "$list")
     printf '%s\n' "$paths" | while IFS= read -r path; do
         rm -f -- "$root/$path"
-        # What Python kept of a module.
+        # The files that Python made of a module.
         case $path in
             *.py) rm -rf -- "$root/${path%/*}/__pycache__" ;;
         esac
@@ -67,7 +66,7 @@ made=$(mktemp)
 trap 'rm -f -- "$made"' EXIT
 : >"$root/$list.new"
 
-# Puts the file $2 at $3 below the folder, with the mode $1.
+# Copies the file $2 to $3 below the folder, with the mode $1.
 put() {
     mkdir -p -- "$root/${3%/*}"
     cp -- "$2" "$root/$3.new"
@@ -87,7 +86,7 @@ put 755 "$top/out/p25" bin/p25
 put 644 "$made" share/man/man1/p25.1
 echo "installed $1/bin/p25 and $1/share/man/man1/p25.1"
 
-# Beside it the companion programs, the words for shells to complete, the pages, the samples and the release.
+# Beside it the helper scripts, the completions for shells, the pages, the samples and the release.
 completions=share/bash-completion/completions
 put 644 "$top/companions/completion.bash" $completions/p25
 if [ -f "$top/companions/completion.zsh" ]; then
@@ -101,7 +100,7 @@ for companion in "$top"/companions/p25-*; do
         put 644 "$made" "share/man/man1/${companion##*/}.1"
     fi
 done
-# Installed, the commands of a page are those of an installation, and its links lead to what is installed.
+# In an installed page the commands are those of an installation, and the links lead to installed files.
 for page in docs/RECIPES.md docs/FORMATS.md docs/WEAK.md; do
     "$top/packaging/page" "$top/$page" >"$made"
     put 644 "$made" "share/p25/${page##*/}"
@@ -110,7 +109,7 @@ for picture in rate.png weak-found.png weak-whole.png; do
     put 644 "$top/docs/$picture" "share/p25/$picture"
 done
 put 644 "$top/RELEASE" share/p25/RELEASE
-# What companions share, and the parts of the page that p25-page makes.
+# The modules that the helper scripts share, and the parts of the page that p25-page makes.
 for part in "$top"/companions/*.py; do
     put 644 "$part" "share/p25/${part##*/}"
 done
@@ -120,12 +119,12 @@ done
 for sample in "$top"/samples/*; do
     put 644 "$sample" "share/p25/samples/${sample##*/}"
 done
-# Installed, the commands of the page of the samples run in their folder.
+# In the installed page of the samples, the commands run in the folder of the samples.
 "$top/packaging/page" "$top/samples/README.md" >"$made"
 put 644 "$made" share/p25/samples/README.md
 echo "installed the companions p25-* beside it, and the recipes and samples in $1/share/p25"
 
-# The library, brought up to date, with its header and what pkg-config tells of it.
+# The library, brought up to date, with its header and its file for pkg-config.
 if [ -f "$top/out/libp25.a" ]; then
     "$top/prove" library
     release=$(sed 's/.* //' "$top/RELEASE")
@@ -161,13 +160,13 @@ END
     echo "installed the library for C under $1/lib and $1/include"
 fi
 
-# The shared library, by its whole number, by the name that programs ask for, and by the one that a linker looks for.
+# The shared library: by its whole number, by the name that programs load, and by the name that a linker looks for.
 if [ -f "$top/out/libp25.a" ] && [ -f "$top/out/libp25.so" ]; then
     put 644 "$top/out/libp25.so" "lib/libp25.so.$release"
     name_too "libp25.so.$release" "lib/libp25.so.${release%%.*}"
     name_too "libp25.so.${release%%.*}" lib/libp25.so
     echo "a program that is linked with -lp25 starts where $1/lib is searched: by LD_LIBRARY_PATH, by -Wl,-rpath, or by ldconfig"
-    # Where Python looks under PREFIX; P25_PYTHON names another folder below it.
+    # The folder in which Python looks below PREFIX; P25_PYTHON names another one below it.
     modules=${P25_PYTHON-$(python3 -c 'import sysconfig; print(sysconfig.get_path("purelib", "posix_prefix", {"base": "/base"})[6:])' 2>/dev/null)} || modules=
     if [ -n "$modules" ]; then
         for file in "$top"/bindings/p25/*.py "$top"/bindings/p25/py.typed; do

@@ -1,4 +1,4 @@
-"""The codes of TIA-102.BAAA, each decoded as its definition says: the nearest word by search, or by linear equations.
+"""The codes of TIA-102.BAAA, each decoded by its definition: the nearest codeword by search, or by linear equations.
 
 Bits are texts of the characters 0 and 1, words are numbers, and symbols of Reed-Solomon codes are numbers below 64.
 """
@@ -9,7 +9,7 @@ SYNC = 0x5575F5FF77FF
 
 
 def bits_of(number, width):
-    """The bits of a number, the highest first."""
+    """Returns the bits of a number, the highest first."""
     return format(number, '0%db' % width) if width else ''
 
 
@@ -26,7 +26,7 @@ def distance(one, other):
 
 
 def remainder(number, divisor, degree):
-    """The rest of number times x^degree by a divisor of that degree, as polynomials over GF(2)."""
+    """Returns the rest of number times x^degree by a divisor of that degree, as polynomials over GF(2)."""
     number <<= degree
     while number.bit_length() > degree:
         number ^= divisor << number.bit_length() - 1 - degree
@@ -42,7 +42,7 @@ def check_by(divisor, degree):
 crc_9, crc_16, crc_32 = check_by(0b1001011001, 9), check_by(0x11021, 16), check_by(0x104C11DB7, 32)
 
 
-# The network identifier: BCH (63,16), the nearest of its 65,536 words, and a bit after them.
+# The network identifier (NID): BCH (63,16), the nearest of its 65,536 codewords, and a bit after them.
 
 BCH_GENERATOR = int('6331141367235453', 8)
 
@@ -52,7 +52,7 @@ def bch_word(data):
 
 
 def bch_nearest(word):
-    """The 16 bits of data of the word of the code within 11 wrong bits, or None: two words differ in 23 places at least, so there is at most one."""
+    """Returns the 16 bits of data of the codeword within 11 bit errors, or None. Two codewords differ in 23 bits at least, so there is at most one."""
     if distance(bch_word(word >> 47), word) <= 11:
         return word >> 47
     return bch_search(word)
@@ -68,7 +68,7 @@ def bch_search(word):
     return near(bch_words(), word, 11)
 
 
-# Golay (24,12) and (18,6), Hamming (10,6), and the (16,8) code: tables of all words, and the one near enough.
+# Golay (24,12) and (18,6), Hamming (10,6), and the (16,8) code: tables of all codewords, and the correctable one.
 
 def golay_word(data):
     word = data << 11 | remainder(data, 0xC75, 11)
@@ -94,7 +94,7 @@ LOW_SPEED = [low_speed_word(data) for data in range(256)]
 
 
 def near(words, word, most):
-    """The data of the one word of a list within most wrong bits, or None."""
+    """Returns the data of the one codeword of a list within `most` bit errors, or None."""
     counts = list(map(int.bit_count, map(word.__xor__, words)))
     least = min(counts)
     return counts.index(least) if least <= most else None
@@ -124,7 +124,7 @@ def inverse(one):
 
 
 def value_at(polynomial, point):
-    """The value of a polynomial, the lowest coefficient first."""
+    """Returns the value of a polynomial, the lowest coefficient first."""
     value = 0
     for coefficient in reversed(polynomial):
         value = times(value, point) ^ coefficient
@@ -132,7 +132,7 @@ def value_at(polynomial, point):
 
 
 def null_vector(rows, width):
-    """A solution, not all zero, of the equations in which each row times it is zero; or None. By Gaussian elimination."""
+    """Returns a solution, not all zero, of the equations that each row times the solution is zero, or None. By Gaussian elimination."""
     rows = [list(row) for row in rows]
     pivots = []
     for column in range(width):
@@ -155,8 +155,8 @@ def null_vector(rows, width):
     return None
 
 
-# Reed-Solomon: a word of n symbols, the first the highest coefficient, is divided by each x - a^i for i from 1 to n - k. So the symbol that belongs
-# to x^j is Z(a^j) g(a^j), where Z is the product of all x - a^m for m from n to 62, and g has a degree below k.
+# Reed-Solomon: a codeword of n symbols, the first the highest coefficient, is divided by each x - a^i for i from 1 to n - k. So the symbol of x^j is Z(a^j)
+# g(a^j); Z is the product of all x - a^m for m from n to 62, and g has a degree below k.
 
 @lru_cache(maxsize=None)
 def places_of(size):
@@ -172,7 +172,7 @@ def places_of(size):
 
 @lru_cache(maxsize=None)
 def unit_word(size, data, place):
-    """The word whose data is 1 at a place and 0 at all others, by a polynomial through the values of the data."""
+    """Returns the codeword whose data is 1 at one position and 0 at all others, by a polynomial through the values of the data."""
     points, scales = places_of(size)
     wanted = inverse(scales[place])
     word = []
@@ -186,7 +186,7 @@ def unit_word(size, data, place):
 
 
 def reed_solomon_word(symbols, size):
-    """The word of a code whose first symbols are the data."""
+    """Returns the codeword whose first symbols are the data."""
     word = [0] * size
     for place, symbol in enumerate(symbols):
         word = [known ^ times(symbol, own) for known, own in zip(word, unit_word(size, len(symbols), place))]
@@ -194,9 +194,9 @@ def reed_solomon_word(symbols, size):
 
 
 def reed_solomon_near(received, data):
-    """The data of the word of which twice the wrong symbols and the erased ones (None) are at most n - k together, or None.
+    """Returns the data of the codeword for which twice the wrong symbols, and the erased ones (None), are at most n - k together, or None.
 
-    It is found by the equations of Berlekamp and Welch: E(p) y = Q(p) at each place that is not erased.
+    It is found by the equations of Berlekamp and Welch: E(p) y = Q(p) at each position that is not erased.
     """
     size = len(received)
     kept = [place for place in range(size) if received[place] is not None]
@@ -219,7 +219,7 @@ def reed_solomon_near(received, data):
             powers.append(times(powers[-1], points[place]))
         seen = times(received[place], inverse(scales[place]))
         rows.append([times(seen, power) for power in powers[:most + 1]] + powers)
-    # Where no symbol may be wrong, E is 1, and the powers have to be as many as the data.
+    # If no symbol may be wrong, E is 1, and the powers have to be as many as the data.
     answer = null_vector(rows, most + 1 + data + most)
     if answer is None:
         return None
@@ -232,7 +232,7 @@ def reed_solomon_near(received, data):
 
 
 def divided(product, divisor):
-    """The quotient of two polynomials, the lowest coefficient first, or None where a rest remains."""
+    """Returns the quotient of two polynomials, the lowest coefficient first, or None if a rest remains."""
     product, divisor = trimmed(product), trimmed(divisor)
     if not divisor:
         return None
@@ -259,13 +259,13 @@ AWAY = [[distance(point, four) for point in POINT_BITS] for four in range(16)]
 HALF = [[0, 15, 12, 3], [4, 11, 8, 7], [13, 2, 1, 14], [9, 6, 5, 10]]
 THREE_QUARTERS = [[0, 8, 4, 12, 2, 10, 6, 14], [4, 12, 2, 10, 6, 14, 0, 8], [1, 9, 5, 13, 3, 11, 7, 15], [5, 13, 3, 11, 7, 15, 1, 9],
                   [3, 11, 7, 15, 1, 9, 5, 13], [7, 15, 1, 9, 5, 13, 3, 11], [2, 10, 6, 14, 0, 8, 4, 12], [6, 14, 0, 8, 4, 12, 2, 10]]
-# Where the four bits of each step of the path are sent: the first thirteen are every fourth, and so on.
+# The positions of the four bits of each step of the path: the first thirteen are every fourth, and so on.
 SENT_AT = [13 * (step % 4) - max(0, step % 4 - 1) + step // 4 for step in range(49)]
 
 
 @lru_cache(maxsize=20000)
 def trellis_word(three_quarters, bits):
-    """The 196 bits of a block: its symbols and one of zeros, as points of the path, interleaved."""
+    """Returns the 196 bits of a block: its symbols and one of zeros, as points of the path, interleaved."""
     table, width = (THREE_QUARTERS, 3) if three_quarters else (HALF, 2)
     sent = [0] * 49
     state = 0
@@ -277,7 +277,7 @@ def trellis_word(three_quarters, bits):
 
 @lru_cache(maxsize=20000)
 def trellis_nearest(three_quarters, received):
-    """The data of the path that differs least from 196 bits; of several such paths the first, as lists of symbols are ordered."""
+    """Returns the data of the path that differs least from 196 bits; of several such paths the first in the order of lists of symbols."""
     table, width = (THREE_QUARTERS, 3) if three_quarters else (HALF, 2)
     # away[step][point] is the distance of a point; least[step][state] the least distance of a path from a state at a step to the end.
     away = [AWAY[int(received[4 * place:4 * place + 4], 2)] for place in SENT_AT]

@@ -1,4 +1,4 @@
-"""Recordings of levels: the bits that they stand for, and the blocks of packets that are decoded from the levels."""
+"""Recordings of levels: their nearest bits, and the blocks of packets that are decoded from the levels."""
 from codes import HALF, POINT_BITS, SENT_AT, THREE_QUARTERS, bits_of, cut_up
 from recordings import blocks_of, head_of, items, octets_of, statuses, with_status, without_status
 
@@ -19,7 +19,7 @@ def without_status_levels(levels):
 
 
 def trellis_from(three_quarters, levels):
-    """The 196 bits of the first path whose nominal levels are nearest to 98 levels, by the sum of squares."""
+    """Returns the 196 bits of the first path whose nominal levels are nearest to 98 levels, by the sum of squares."""
     table = THREE_QUARTERS if three_quarters else HALF
 
     def cost(step, state, symbol):
@@ -41,7 +41,7 @@ def trellis_from(three_quarters, levels):
 
 
 def softened(item, levels):
-    """The bits of a packet, its failing blocks decoded from its levels."""
+    """Returns the bits of a packet, with its failing blocks decoded from its levels."""
     payload, bare = without_status(item.raw), without_status_levels(levels)
     count = blocks_of(head_of(payload[:308]))
     for block in range(count):

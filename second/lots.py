@@ -1,4 +1,4 @@
-"""Inputs by lot: recordings, unit lines and scripts. Each call takes the source of numbers, a random.Random."""
+"""Random inputs: recordings, unit lines and scripts. Each call takes the source of numbers, a random.Random."""
 import codes
 import recordings
 import stations
@@ -28,7 +28,7 @@ def head(lot, form, blocks):
 
 
 def unit(lot, nac=None, kind=None):
-    """A unit of any kind, or of one."""
+    """Returns a unit of any type, or of a given one."""
     nac = nac or digits(lot, 3)
     kind = kind or lot.choice(['hdu', 'ldu1', 'ldu1', 'ldu2', 'ldu2', 'tdu', 'tdulc', 'confirmed', 'plain', 'response'])
     if kind not in recordings.FORMATS.values():
@@ -52,11 +52,12 @@ def flipped(bits, places):
 
 
 def some_of(lot, start, size, most):
-    """Up to so many places among those of a stretch."""
+    """Returns a number of positions, up to a limit, within a range."""
     return [start + place for place in lot.sample(range(size), min(size, lot.randrange(most + 1)))]
 
 
-# Of a kind with words: where they lie, their bits, how one is read, all of them, how many wrong bits each undoes, and how many may be lost.
+# For a type with codewords: their positions, their length, their decoder, a table of all codewords, how many bit errors each corrects, and how many may be
+# erased.
 WORDS = {'hdu': (range(112, 760, 18), 18, codes.golay_18, codes.GOLAY_18, 3, 16),
          'tdulc': (range(112, 400, 24), 24, codes.golay_24, codes.GOLAY_24, 3, 6),
          'ldu1': (recordings.LINKS, 10, codes.hamming_10, codes.HAMMING_10, 1, 12),
@@ -64,7 +65,7 @@ WORDS = {'hdu': (range(112, 760, 18), 18, codes.golay_18, codes.GOLAY_18, 3, 16)
 
 
 def bordered(lot, kind, payload):
-    """The bits of a unit of which about as many words are lost and wrong as its code undoes."""
+    """Returns the bits of a unit of which about as many codewords are erased and wrong as its outer code corrects."""
     places, width, read, table, most, room = WORDS[kind]
     lost = lot.randrange(room + 1)
     wrong = max(0, (room - lost) // 2 + lot.choice([-1, 0, 0, 0, 1]))
@@ -78,7 +79,7 @@ def bordered(lot, kind, payload):
 
 
 def strained(lot, kind, payload):
-    """The bits of a unit, damaged near what its codes undo."""
+    """Returns the bits of a unit, damaged near the correction radii of its codes."""
     places = []
     if lot.random() < 0.4:
         places += [bit for bit in lot.sample(range(48), lot.choice([1, 3, 4, 4, 5]))]
@@ -95,7 +96,7 @@ def strained(lot, kind, payload):
 
 
 def raw_packet(lot, form, blocks, bodies):
-    """A packet whose header names a format and blocks, and that carries blocks of the two rates, right or wrong."""
+    """Returns a packet whose header names a format and blocks, and that carries blocks of the two rates, correct or wrong."""
     nac = lot.randrange(4096)
     bits = recordings.front(nac, 12)
     top = recordings.binary(head(lot, form, blocks))
@@ -122,7 +123,7 @@ def statuses(lot, payload):
 
 
 def piece(lot, nac, rate):
-    """A part of a recording."""
+    """Returns a part of a recording."""
     chance = lot.random()
     if chance < 0.62:
         made = unit(lot, nac if lot.random() < 0.8 else None)
@@ -142,14 +143,14 @@ def piece(lot, nac, rate):
         return crowd(lot)
     if chance < 0.96:
         return worn(lot, chain(lot, nac), lot.choice([0, 0, rate]))
-    # A sync with an identifier of any data unit, and noise.
+    # A sync with an NID of any data unit, and noise.
     payload = recordings.front(lot.randrange(4096), lot.randrange(16))
     payload = flipped(payload, [48 + bit for bit in lot.sample(range(64), lot.randrange(14))])
     return recordings.with_status(payload, statuses(lot, payload)) + noise(lot, lot.choice([0, 30, 200, 400]))
 
 
 def chain(lot, nac):
-    """Units end to end, of which many fronts are damaged or lost."""
+    """Returns units end to end; in many of them sync and NID are damaged or lost."""
     parts, lost, kind = [], 0, lot.choice([0, 5, 10, 15, 5, 3])
     for _ in range(lot.choice([2, 4, 6, 9])):
         if lot.random() < 0.06:
@@ -163,7 +164,7 @@ def chain(lot, nac):
             payload = other_front(lot, int(nac, 16), kind, lost) + payload[112:]
         bits = recordings.with_status(payload, statuses(lot, payload))
         if lot.random() < 0.06:
-            # Another front, or noise, stands in the unit.
+            # Another sync and NID, or noise, is in the unit.
             place, there = lot.randrange(len(bits)), lot.choice([recordings.front(int(nac, 16), lot.choice([0, 3, 5, 10, 15])), noise(lot, 112), noise(lot, 4)])
             bits = bits[:place] + there + bits[place + len(there) + lot.choice([0, 0, 0, 1, -1]):]
         parts.append(bits)
@@ -174,13 +175,13 @@ def chain(lot, nac):
 
 
 def other_front(lot, nac, kind, lost):
-    """The 112 bits of a front with about as many wrong bits as are still told, that of another unit, or noise."""
+    """Returns 112 bits: sync and NID with about as many bit errors as are still found, those of another unit, or noise."""
     chance, sent = lot.random(), recordings.front(nac, kind)
     if lost or chance < 0.1:
         return noise(lot, 112)
     wrong = lot.choice([0, 1, 10, 11, 11, 12, 12, 14, 15, 16, 16, 16, 17, 17])
     if chance < 0.2:
-        # An identifier about as far from that of another kind that may come.
+        # An NID about as far from that of another type that may come.
         other = recordings.front(nac, lot.choice([0, 3, 5, 10, 15]))
         apart = [place for place in range(48, 111) if sent[place] != other[place]]
         places = lot.sample(apart, min(len(apart), len(apart) // 2 + lot.choice([0, 0, 1]))) + lot.sample(range(48), lot.choice([0, 5, 14, 18]))
@@ -192,7 +193,7 @@ def other_front(lot, nac, kind, lost):
 
 
 def crowd(lot):
-    """Many syncs, near one another and one over the other."""
+    """Returns many syncs, near one another and one over the other."""
     parts = []
     for _ in range(lot.randrange(1, 13)):
         sync = flipped(bits_of(codes.SYNC, 48), lot.sample(range(48), lot.choice([0, 0, 1, 4, 5])))
@@ -201,7 +202,7 @@ def crowd(lot):
 
 
 def worn(lot, bits, rate):
-    """Bits with wrong ones at a rate, and by chance a fade, a slip or an end that is missing."""
+    """Returns the bits with bit errors at a rate, and sometimes a fade, a slip or a missing end."""
     bits = flipped(bits, [place for place in range(len(bits)) if lot.random() < rate]) if rate else bits
     chance = lot.random()
     if chance < 0.08:
@@ -224,7 +225,7 @@ def recording(lot):
     if lot.random() < 0.3:
         bits = bits[:max(0, len(bits) - lot.randrange(1, 2000))]
     if lot.random() < 0.2:
-        # The end falls just around what an identifier or a header takes.
+        # The end is near the end of an NID or of a header.
         last = recordings.unit_bits(unit(lot, nac), 1)
         bits += flipped(last, some_of(lot, 48, 300, lot.choice([0, 0, 50])))[:lot.choice([47, 48, 49, 112, 113, 114, 115, 143, 144, 315, 316, 317, 359, 360])]
     bits = bits[:len(bits) - len(bits) % 8] if lot.random() < 0.5 else bits
@@ -232,13 +233,13 @@ def recording(lot):
 
 
 def chains(lot):
-    """A recording of chains, most of them without other damage."""
+    """Returns a recording of chains, most of them without other damage."""
     parts = [worn(lot, chain(lot, digits(lot, 3)), lot.choice([0, 0, 0, 0.003, 0.02])) for _ in range(lot.choice([1, 1, 2, 3]))]
     return recordings.octets_of(noise(lot, lot.choice([0, 0, 3])) + ''.join(parts) + noise(lot, lot.choice([0, 0, 9, 200, 2000])))
 
 
 def levels(lot):
-    """A recording of levels: bits at their nominal levels with noise, fades and clicks, and an end at any level."""
+    """Returns a recording of levels: bits at their nominal levels with noise, fades and clicks, and an end at any level."""
     octets = chains(lot) if lot.random() < 0.5 else recording(lot)
     bits = bits_of(int.from_bytes(octets, 'big'), 8 * len(octets)) if octets else ''
     if lot.random() < 0.3:
@@ -263,7 +264,7 @@ def levels(lot):
 
 
 def lines(lot):
-    """Unit lines, of which one may be wrong."""
+    """Returns unit lines, of which one may be wrong."""
     made = [recordings.line_of(unit(lot)).encode() for _ in range(lot.choice([0, 1, 2, 4, 7]))]
     if made and lot.random() < 0.7:
         place = lot.randrange(len(made))
@@ -272,7 +273,7 @@ def lines(lot):
 
 
 def spoiled(lot, line):
-    """A line with some faults of form."""
+    """Returns a line with some faults of form."""
     for _ in range(lot.choice([1, 1, 2])):
         place = lot.randrange(len(line) + 1)
         spaces = [at for at, octet in enumerate(line) if octet == 32] or [0]
@@ -302,7 +303,7 @@ def spoiled(lot, line):
     return line
 
 
-# Scripts: the second reading runs beside, so that a delivery may turn what was sent into something else.
+# Scripts: the second implementation runs beside, so that a delivery may change the transmitted unit into something else.
 
 def message(lot, most):
     size = lot.choice([0, 1, 12, 13, 28, 60, 60, 200, lot.randrange(300), lot.choice([lot.randrange(most + 1), 1005, 1020, 1021, 1100, 1500])])
@@ -310,7 +311,7 @@ def message(lot, most):
 
 
 def other_head(lot, top):
-    """A head with some octet in another form."""
+    """Returns a head with some octet in another form."""
     octets = bytearray.fromhex(top)
     for _ in range(lot.choice([1, 1, 2])):
         place = lot.choice([0, 1, 1, 1, 2, 5, 6, 6, 7, 7, 8, 8, 8, 8, 9])
@@ -328,7 +329,7 @@ def other_head(lot, top):
 
 
 def other_blocks(lot, blocks):
-    """Blocks of a confirmed packet in another form."""
+    """Returns blocks of a confirmed packet in another form."""
     for _ in range(lot.choice([1, 1, 2, 4])):
         place = lot.randrange(len(blocks))
         chance = lot.random()
@@ -354,7 +355,7 @@ def other_blocks(lot, blocks):
 
 
 def other_unit(lot, sent):
-    """A packet like one that is sent."""
+    """Returns a packet like one that is sent."""
     kind, (nac, top, data) = sent
     chance = lot.random()
     if chance < 0.08:
@@ -378,7 +379,7 @@ def other_unit(lot, sent):
 
 
 def turned_places(lot, sent):
-    """The places of wrong bits of a delivery of a unit, or of nothing."""
+    """Returns the positions of bit errors of a delivery of a unit, or of nothing."""
     if not sent:
         return some_of(lot, 0, 360, 3)
     size = len(recordings.unit_bits(sent, 0))
@@ -415,7 +416,7 @@ def place_list(places):
 
 
 def script(lot, command):
-    """A script of one of the commands, in which one line may be wrong."""
+    """Returns a script of one of the commands, in which one line may be wrong."""
     play, made, skew = stations.PLAYS[command](), [], lot.choice([0, 0, 1, 2])
     for _ in range(lot.choice([3, 10, 30, 60])):
         line = script_line(lot, command, play, skew)

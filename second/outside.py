@@ -1,11 +1,11 @@
 #!/usr/bin/env python3
-"""Holds the codes of this folder against codewords from outside.
+"""Compares the codes of this folder with codewords from outside.
 
 usage: second/outside.py        prints each difference, and how many codewords there are
 
-A row is a code, a received word, and what it decodes to: `Found`, the codeword and the number of errors, or `Beyond`. The rows were made and checked by
-programs and libraries that have nothing to do with this project. Words of binary codes are hexadecimal numbers; words of Reed-Solomon codes have two octal
-digits for each symbol, the first symbol first.
+A row is a code, a received word, and what it decodes to: `Found`, the codeword and the number of errors, or `Beyond`. Programs and libraries that have
+nothing to do with this project made and checked the rows. Words of binary codes are hexadecimal numbers; words of Reed-Solomon codes have two octal digits
+for each symbol, the first symbol first.
 """
 import sys
 
@@ -51,7 +51,7 @@ BINARY = {
 
 
 def decoded(code, received):
-    """The words of a row after the received one."""
+    """Returns the words of a row after the received one."""
     if code in BINARY:
         decoder, encoder = BINARY[code]
         word = int(received, 16)

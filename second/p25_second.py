@@ -1,7 +1,7 @@
 #!/usr/bin/env python3
 """A second implementation of the commands of `p25`, written from the documents without the crates (see README.md beside it).
 
-usage: second/p25_second.py COMMAND..    as `p25`, but for `sample`
+usage: second/p25_second.py COMMAND..    as `p25`, except `sample`
 """
 import re
 import sys
@@ -14,7 +14,7 @@ COMMANDS = 'show|check|repair|follow|calls|soft|(bridge|relay) [0-9a-f]{3} [0-3]
 
 
 def run(words, data):
-    """What a command writes of an input, its exit status, and its line on standard error."""
+    """Returns the output of a command for an input, its exit status, and its line on standard error."""
     name, *rest = words or ['']
     if not re.fullmatch(COMMANDS, ' '.join(words)):
         return b'', 1, 'usage\n'

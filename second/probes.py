@@ -10,12 +10,12 @@ ZEROS = {kind: [''.zfill(width or 0) for _, width in keys[1:]] for kind, keys in
 
 
 def bits(kind, nac='293', status=1):
-    """The bits of a unit of zeros, of a kind that is no packet."""
+    """Returns the bits of a unit of zeros, of a type that is no packet."""
     return recordings.unit_bits((kind, [nac] + ZEROS[kind]), status)
 
 
 def packet(form, blocks, flag=1):
-    """The bits of a packet of a format, whose blocks are zeros."""
+    """Returns the bits of a packet of a format, whose blocks are zeros."""
     head = '%02xc000000001%02x000800' % (0x40 | form, 128 * flag | blocks)
     kind = recordings.FORMATS.get(form, 'plain')
     data = ','.join('%02x:%032x' % (serial, serial) for serial in range(blocks)) if kind == 'confirmed' else ''.zfill(max(0, 24 * blocks - 8))
@@ -23,12 +23,12 @@ def packet(form, blocks, flag=1):
 
 
 def with_front(unit, of_sync, of_identifier):
-    """The bits of a unit with so many wrong bits in the sync and in the identifier."""
+    """Returns the bits of a unit with a number of bit errors in the sync and in the NID."""
     return flipped(unit, list(range(of_sync)) + [48 + place + 2 * (place > 21) for place in range(1, 63, 3)][:of_identifier])
 
 
 def recordings_probed():
-    """The names of recordings and their bits."""
+    """Yields the names of recordings and their bits."""
     voice = [bits('ldu1'), bits('ldu2')] * 4
     for pause in (0, 1, 47, 48, 3455, 3456, 3457, 4095, 4096, 4097, 8192):
         yield 'a pause of %d bits' % pause, voice[0] + '0' * pause + voice[1] + bits('tdu')
@@ -81,7 +81,7 @@ def recordings_probed():
 
 
 def answers_probed(lines, words):
-    """Scripts in which the answer after some lines has another octet 1."""
+    """Yields scripts in which the response packet after some lines has another octet 1."""
     sent = stations.Stations()
     for line in lines:
         sent.step(stations.event_of(line.encode(), 'stations'))
@@ -94,7 +94,7 @@ def answers_probed(lines, words):
 
 
 def scripts_probed():
-    """Commands and scripts that their lines make."""
+    """Yields commands and scripts that their lines make."""
     for size in (0, 1, 11, 12, 13, 28, 1004, 1005, 1020, 1021, 1500, 2027, 2028, 2029):
         text = '5a' * size or '-'
         damaged = ','.join(str(308 + 204 * block) for block in range(0, 126, 3))
@@ -111,7 +111,7 @@ def scripts_probed():
     for kind in SCRIPTS:
         way = 'ab' if kind == 'duplex' else 'data'
         for size in (8191, 8192, 8193):
-            # Places of four digits, as many as it takes so that the rest is filled by places of five.
+            # Positions of four digits, as many as are needed so that positions of five digits fill the rest.
             room = size + 1 - len('deliver %s ' % way)
             short = next(count for count in range(6) if (room - 5 * count) % 6 == 0)
             places = list(range(9000, 9000 + short)) + list(range(10000, 10000 + (room - 5 * short) // 6))
@@ -124,7 +124,7 @@ def scripts_probed():
 
 
 def lines_probed():
-    """Names and texts of unit lines."""
+    """Yields names and texts of unit lines."""
     for kind in recordings.KEYS:
         if kind not in recordings.FORMATS.values():
             line = recordings.line_of((kind, ['293'] + ZEROS[kind]))
@@ -145,7 +145,7 @@ def lines_probed():
 
 
 def probes():
-    """The names of the inputs, each with a command and the octets."""
+    """Yields the names of the inputs, each with a command and the octets."""
     for name, there in recordings_probed():
         for command in EVERY:
             yield name, command, recordings.octets_of(there)

@@ -1,4 +1,4 @@
-"""Units, the items of a recording, the commands that read one, and the lines that are built."""
+"""Units, the items of a recording, the commands that read a recording, and the lines that are built."""
 import re
 from functools import lru_cache
 from itertools import repeat
@@ -8,7 +8,7 @@ from codes import (GOLAY_18, GOLAY_24, HAMMING_10, LOW_SPEED, SYNC, bch_nearest,
 DUIDS = {'hdu': 0, 'tdu': 3, 'ldu1': 5, 'ldu2': 10, 'confirmed': 12, 'plain': 12, 'response': 12, 'tdulc': 15}
 KINDS = {0: 'hdu', 3: 'tdu', 5: 'ldu1', 10: 'ldu2', 15: 'tdulc'}
 BITS = {0: 792, 3: 144, 5: 1728, 10: 1728, 15: 432}
-# The kinds that may come after a unit of a kind, with the next voice unit first.
+# The types that may come after a unit of a type, with the next voice unit first.
 AFTER = {0: (5, 15, 3), 5: (10, 15, 3), 10: (5, 15, 3), 15: (0, 15, 3)}
 FORMATS = {0x16: 'confirmed', 0x15: 'plain', 0x03: 'response'}
 KEYS = {'hdu': [('nac', 3), ('mi', 18), ('mfid', 2), ('algid', 2), ('kid', 4), ('tgid', 4)],
@@ -33,16 +33,16 @@ def binary(digits):
 
 
 def length_for(payload):
-    """How many bits a unit has of which so many bits without status symbols are given: whole pieces of 72."""
+    """Returns the length of a unit with status symbols, given its length without: whole groups of 72 bits."""
     return 72 * -(-payload // 70)
 
 
 def blocks_of(head):
-    """The blocks to follow that a header of 80 bits names."""
+    """Returns the number of blocks to follow that a header of 80 bits names."""
     return number_of(head[49:56])
 
 
-# A unit is a kind and a list of values, digits of hexadecimal as its line has them.
+# A unit is a type and a list of values, in digits of hexadecimal as in its line.
 
 def line_of(unit):
     kind, values = unit
@@ -57,12 +57,12 @@ def value(unit, key):
 
 
 def front(nac, duid):
-    """The sync and the 64 bits of the network identifier; the last says whether the unit is a voice unit."""
+    """Returns the sync and the 64 bits of the network identifier (NID); the last bit is 1 for a voice unit."""
     return bits_of(SYNC, 48) + bits_of(bch_word(nac << 4 | duid), 63) + ('1' if duid in (5, 10) else '0')
 
 
 def payload_of(unit):
-    """The bits of a unit without its status symbols."""
+    """Returns the bits of a unit without its status symbols."""
     kind = unit[0]
     start = front(int(value(unit, 'nac'), 16), DUIDS[kind])
     if kind == 'hdu':
@@ -158,7 +158,7 @@ def split(digits, widths):
 
 
 def field(received, data):
-    """The digits of a Reed-Solomon field, or None."""
+    """Returns the digits of a Reed-Solomon field, or None."""
     symbols = reed_solomon_near(received, data)
     return None if symbols is None else as_digits(symbols)
 
@@ -193,7 +193,7 @@ def read_voice(payload, nac, kind):
 
 
 def confirmed_blocks(data):
-    """The serial number and the digits of each block of a confirmed packet, or None where its check does not agree."""
+    """Returns the serial number and the digits of each block of a confirmed packet, or None if its check does not agree."""
     blocks = [trellis_nearest(True, block) for block in data]
     return [(int(block[:7], 2), hexadecimal(block[16:])) if crc_9(block[:7] + block[16:]) == int(block[7:16], 2) else None for block in blocks]
 
@@ -216,13 +216,13 @@ def read_packet(payload, nac, head):
 
 
 def head_of(payload):
-    """The 80 bits of a packet's header, or None where its check does not agree."""
+    """Returns the 80 bits of a packet's header, or None if its check does not agree."""
     block = trellis_nearest(False, payload[112:308])
     return block[:80] if crc_16(block[:80]) == int(block[80:], 2) else None
 
 
 class Item:
-    """A part of a recording: its word, where it begins, its bits, and what its line says more."""
+    """A part of a recording: its word, its position, its bits, and the rest of its line."""
 
     def __init__(self, word, at, bits, **more):
         self.word, self.at, self.bits = word, at, bits
@@ -242,7 +242,7 @@ class Item:
 
 
 def looked_at(unit, size):
-    """The places of the bits without status symbols that are looked at."""
+    """Returns the positions of the bits without status symbols that are examined."""
     kind = unit[0]
     places = list(range(111))
     if kind in ('ldu1', 'ldu2'):
@@ -252,7 +252,7 @@ def looked_at(unit, size):
 
 
 def item_at(bits, at):
-    """The item that begins with the sync at a place."""
+    """Returns the item that begins with the sync at a position."""
     left = len(bits) - at
     if left < 114:
         return Item('cut', at, left)
@@ -280,7 +280,7 @@ def item_at(bits, at):
 
 
 def read_unit(item, head):
-    """Reads the fields of a unit of which the identifier, and a packet's header, are read."""
+    """Decodes the fields of a unit whose NID, and for a packet its header, decode."""
     payload = without_status(item.raw)
     read = {0: read_header, 3: lambda _, nac, __: (('tdu', [nac]), []), 12: read_packet, 15: read_terminator}.get(item.duid, read_voice)
     unit, faults = read(payload, '%03x' % item.nac, head or KINDS.get(item.duid))
@@ -294,7 +294,7 @@ def read_unit(item, head):
 
 
 def sync_places(bits):
-    """Each place at which 48 bits differ from the frame sync in at most four."""
+    """Yields each position at which 48 bits differ from the frame sync in at most four."""
     whole, mask, window = len(bits), (1 << 48) - 1, 0
     for place in range(whole):
         window = (window << 1 | (bits[place] == '1')) & mask
@@ -316,7 +316,7 @@ def gaps(start, end):
     return [Item('gap', at, min(4096, end - at)) for at in range(start, end, 4096)]
 
 
-# Commands that read a recording: each answers what is written and the exit status.
+# Commands that read a recording: each returns the output and the exit status.
 
 def show(bits):
     return ''.join(item.line() + '\n' for item in items(bits)).encode(), 0, ''
@@ -335,7 +335,7 @@ def check(bits):
 
 
 def written(bits, change):
-    """The octets of a recording of whose items some are changed; where there is no change, the bits stay."""
+    """Returns the octets of a recording with some of its items changed; all other bits stay."""
     changed = [change(item) for item in items(bits)]
     return octets_of(''.join(bits[item.at:item.at + item.bits] if new is None else new for item, new in zip(items(bits), changed))), 0, ''
 
@@ -345,7 +345,7 @@ def repair(bits):
 
 
 def under(item, nac, status):
-    """A unit under an access code and with a status symbol; a broken one keeps the bits after its front."""
+    """Returns a unit under a NAC and with a status symbol; a broken unit keeps the bits after sync and NID."""
     if item.unit:
         return unit_bits((item.unit[0], ['%03x' % nac] + item.unit[1][1:]), status)
     return with_status(front(nac, item.duid) + without_status(item.raw)[112:], repeat(status))
@@ -371,8 +371,8 @@ def follow(bits):
 
 
 def coming(bits, at, end, nac, kind, then, lost=3):
-    """The kind of the unit that is told at a place after a unit, or is the next one found; else that of a voice unit whose front is lost, of which
-    some more may be; or None."""
+    """Returns the type of the unit at a position after a unit, if it is found there or is the next unit found. Else it is that of a voice unit whose sync and
+    NID are lost, if some more may be lost; or None."""
     may = AFTER.get(kind, ())
     if at == end:
         return then.duid if then and then.nac == nac and then.duid in may else None
@@ -448,7 +448,7 @@ class Fault(Exception):
 
 
 def words_of(line):
-    """The words of a line of octets, or its fault."""
+    """Returns the words of a line of octets, or raises its fault."""
     if len(line) > LONGEST:
         raise Fault('long')
     if not re.fullmatch(rb'[\x21-\x7e]+( [\x21-\x7e]+)*', line):
@@ -457,7 +457,7 @@ def words_of(line):
 
 
 def parsed(line):
-    """The unit of a line of octets."""
+    """Returns the unit of a line of octets."""
     kind, *given = words_of(line)
     if kind not in KEYS:
         raise Fault('kind')

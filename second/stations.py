@@ -39,7 +39,7 @@ class Sender:
         return 'send taken ns=%d blocks=%d' % (self.number, len(self.outstanding[0])), self.packet()
 
     def packet(self, serials=None):
-        """The packet of what is outstanding, or of some of its blocks."""
+        """Returns the packet of the outstanding message, or of some of its blocks."""
         blocks, pad = self.outstanding
         opening = not blocks
         listed = list(range(len(blocks))) if serials is None else serials
@@ -47,7 +47,7 @@ class Sender:
         return 'confirmed', ['%03x' % NAC, head, ','.join('%02x:%s' % (serial, blocks[serial]) for serial in listed) or '-']
 
     def again(self):
-        """Whether one more transmission may be made; where not, the sender gives up."""
+        """Returns whether one more transmission may be made; if not, the sender gives up."""
         if self.tries == TRIES:
             self.down, self.lost_message, self.outstanding = True, bool(self.outstanding[0]), None
             return False
@@ -72,7 +72,7 @@ class Sender:
         return 'reopen sent ns=%d' % self.number, self.packet()
 
     def hear(self, packet):
-        """The step at an answer, and the packet that is sent."""
+        """Returns the step for a response packet, and the packet that is sent."""
         word = int(packet.head[2:4], 16)
         ours = packet.kind == 'response' and packet.nac == NAC and packet.head[6:12] == ADDRESS
         if not ours or not self.outstanding or word & 7 != self.number:
@@ -94,12 +94,12 @@ class Sender:
         return 'answer %s try=%d' % (step, self.tries), self.packet(missing)
 
     def more(self):
-        """The end of the last line."""
+        """Returns the end of the last line."""
         return ' sessions=%d' % self.sessions if self.sessions > 1 else ''
 
 
 class Receiver:
-    """Takes messages in their order, and keeps the blocks of the one that is not whole."""
+    """Takes messages in their order, and keeps the blocks of the message that is not whole."""
 
     def __init__(self):
         self.last = 7
@@ -111,7 +111,7 @@ class Receiver:
         return 'response', ['%03x' % NAC, '23%02x00%s%02x000000' % (word + number, ADDRESS, 128 | blocks), octets]
 
     def hear(self, packet):
-        """The step at a packet, and the answer that is sent; the message too, where it came whole."""
+        """Returns the step for a packet, and the response packet; also the message, if it came whole."""
         if packet.kind != 'confirmed' or packet.nac != NAC or packet.head[6:12] != ADDRESS:
             return 'data ignored', None, None
         head = binary(packet.head)
@@ -149,8 +149,8 @@ class Receiver:
 
 
 def heard(bits):
-    """The packet of a transmission: its kind, access code, head, and blocks (None where the check fails) or octets; or the name of the field for
-    which it is not read."""
+    """Returns the packet of a transmission: its kind, NAC, head, and blocks (None if the check fails) or octets; or the name of the field that does not
+    decode."""
     payload = recordings.without_status(bits)
     if codes.distance(int(payload[:48], 2), codes.SYNC) > 4:
         return 'sync'
@@ -179,7 +179,7 @@ def heard(bits):
 
 
 def delivered(unit, places):
-    """What is heard of a unit that is sent, with wrong bits at some places; and whether it is another one."""
+    """Returns the packet received of a unit that is sent, with bit errors at some positions, and whether it is another one."""
     bits = recordings.unit_bits(unit, 0)
     turned = list(bits)
     for place in places:
@@ -190,7 +190,7 @@ def delivered(unit, places):
 
 
 def differs(packet, unit):
-    """Whether what is read of a packet is not what was sent."""
+    """Returns whether the decoding of a packet differs from the packet transmitted."""
     if (packet.kind, packet.head) != (unit[0], unit[1][1]):
         return True
     if packet.kind == 'confirmed':
@@ -199,7 +199,7 @@ def differs(packet, unit):
 
 
 class Link:
-    """A sender and a receiver, and what each sent last."""
+    """A sender and a receiver, and the last packet of each."""
 
     def __init__(self):
         self.sender, self.receiver = Sender(), Receiver()
@@ -208,7 +208,7 @@ class Link:
         self.message = None
 
     def act(self, event):
-        """The step of an event: its words, of which the last is an octet string or a list of places."""
+        """Returns the step of an event: its words, the last of which is an octet string or a list of positions."""
         step, packet = {'send': lambda: self.sender.send(event[1]), 'timeout': self.sender.timeout, 'reopen': self.sender.reopen}[event[0]]()
         if packet:
             self.sent['data'] = packet
@@ -239,7 +239,7 @@ class Link:
 
 
 def event_of(line, command):
-    """The event of a line of a script."""
+    """Returns the event of a line of a script."""
     given = words_of(line)
     offer = 'long' if command == 'fragments' else 'send'
     alone = {offer: 1, 'timeout': 0, 'reopen': 0}
@@ -278,7 +278,7 @@ def places_of(text):
 
 
 class Stations(Link):
-    """A script of `stations`."""
+    """Runs a script of `stations`."""
 
     def step(self, event):
         return self.deliver(*event[1:]) if event[0] == 'deliver' else self.act(event)
@@ -288,7 +288,7 @@ class Stations(Link):
 
 
 class Fragments(Link):
-    """A script of `fragments`: messages that are sent in parts."""
+    """Runs a script of `fragments`: messages that are sent in parts."""
 
     def __init__(self):
         super().__init__()
@@ -325,7 +325,7 @@ class Fragments(Link):
         return 'long taken parts=%d\n' % len(pieces) + self.act(('send', self.parts[0]))
 
     def joined(self, part):
-        """The step at a part that came: all but the last have 500 octets, and one that does not go on lets all before it go."""
+        """Returns the step for a part that came: all except the last have 500 octets, and a part that does not continue drops all before it."""
         last = part and part[0] > 127
         fits = part and part[0] & 127 == self.next and (len(part) <= PART + 1 if last else len(part) == PART + 1 and part[0] < PARTS - 1)
         if not fits:
@@ -344,7 +344,7 @@ class Fragments(Link):
 
 
 class Duplex:
-    """A script of `duplex`: two stations that both send."""
+    """Runs a script of `duplex`: two stations that both send."""
 
     def __init__(self):
         self.stations = {'a': Link(), 'b': Link()}
@@ -379,7 +379,7 @@ class Duplex:
         lines = []
         for name, other in ('ab', 'ba'):
             link = self.stations[name]
-            # What one station sends is delivered at the other.
+            # The packets of one station are delivered at the other.
             lines.append('%s sent=%d delivered=%d acknowledged=%d' % (
                 name, link.counts['sent'], self.stations[other].counts['delivered'], link.counts['acknowledged']) + link.sender.more())
         return '\n'.join(lines) + '\nfalse=%d' % self.false

@@ -1,13 +1,13 @@
 "use strict";
 // Works on a recording beside the page: finds its form, makes calls of the program, and reads its lines.
 
-// The program reads at most so many octets.
+// The most octets that the program reads.
 const MOST = 16777216;
-// A beginning of so many octets is enough to find the form.
+// The octets of a beginning that are enough to find the form.
 const BEGINNING = 1048576;
-// The page shows at most so many rows of a table.
+// The most rows of a table on the page.
 const ROWS = 1000;
-// Bits of a data unit that are examined for bit errors: its sync, 63 bits of its identifier, and the words of its codes.
+// Bits of a data unit that are examined for bit errors: its sync, 63 bits of its NID, and its codewords.
 const EXAMINED = { hdu: 759, ldu1: 383, ldu2: 383, tdu: 111, tdulc: 399 };
 const EXAMINED_OF_PACKET = 111;
 const EXAMINED_OF_BLOCK = 196;
@@ -16,7 +16,8 @@ const FORMS = ["octets", "digits", "bits", "dibits"];
 
 let program = null;
 
-// The octet of four dibits after the turns of p25-octets: polarity, the two bits of a dibit, the order of the dibits.
+// Returns the octet that each octet becomes after the turns of p25-octets: polarity, the two bits of a dibit, the order of the
+// dibits.
 function tableOf(turns) {
     const table = new Uint8Array(256);
     for (let octet = 0; octet < 256; octet++) {
@@ -29,7 +30,7 @@ function tableOf(turns) {
     return table;
 }
 
-// The recording in octets, of a file in a form, or null if the file cannot be of this form.
+// Returns the recording in octets, of a file in a form, or null if the file cannot be of this form.
 function octetsOf(data, form, most) {
     if (form === "octets") return data.slice(0, most);
     const bits = form === "bits" ? 1 : 2;
@@ -100,7 +101,7 @@ function linesOf(chunks) {
     return lines;
 }
 
-// How many units are found in a recording, and how many syncs that give none.
+// Returns how many units are found in a recording, and how many syncs that begin none.
 function countOf(octets) {
     const lines = linesOf(call(["check"], octets).chunks);
     const count = { units: 0, broken: 0, others: 0 };
@@ -112,7 +113,7 @@ function countOf(octets) {
     return count;
 }
 
-// The form with the most units, as p25-guess finds it, of a beginning of the file.
+// Returns the form with the most units, as p25-guess finds it, of a beginning of the file.
 function formOf(data) {
     let best = null;
     const text = isText(data);
@@ -133,7 +134,7 @@ function formOf(data) {
 
 const partOf = (digits, from, count) => parseInt(digits.slice(from, from + count), 16);
 
-// Who speaks to whom in a link control word.
+// Returns talker and called of a link control word.
 function talkOf(lc) {
     const talk = { format: null, radio: null, group: null, called: null, emergency: null, maker: null };
     if (lc === "none") return talk;
@@ -163,7 +164,7 @@ function examinedOf(item) {
     return EXAMINED_OF_PACKET + EXAMINED_OF_BLOCK * (1 + (partOf(item.head, 12, 2) % 128));
 }
 
-// The lines of `show` as rows and counts, and the calls with the bit errors of their units.
+// Returns the lines of `show` as rows and counts, and the calls with the bit errors of their units.
 function read(showLines, callLines) {
     const counts = { unit: 0, broken: 0, nounit: 0, gap: 0, cut: 0 }, rows = [], units = [];
     for (const line of showLines) {

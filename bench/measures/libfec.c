@@ -1,5 +1,5 @@
-/* Times libfec on the words that coders/words.rt.txt and coders/marks.rt.txt time: Reed-Solomon words over GF(64), and
-   identifiers as Reed-Solomon words of 63 symbols with 22 check symbols, which is how libfec can read them. The lines are of the
+/* Times libfec on the codewords of coders/words.rt.txt and coders/marks.rt.txt: Reed-Solomon codewords over GF(64), and NIDs as
+   Reed-Solomon codewords of 63 symbols with 22 check symbols, because libfec can decode them in that form. The lines are of the
    same form. */
 #include "words.h"
 
@@ -12,7 +12,7 @@ enum { ROUNDS = 400, WORDS = 64, LONGEST = 63 };
 static unsigned char words[WORDS][LONGEST];
 static int marked[WORDS][LONGEST];
 
-/* Times `decode_rs_char` on the words of a row, of which so many symbols are marked. */
+/* Times `decode_rs_char` on the codewords of a row, with a number of erasures. */
 static void time_row(void *code, const char *name, const char *label, int n, int marks) {
     uint64_t least = UINT64_MAX;
     unsigned found = 0;
@@ -35,7 +35,7 @@ static void time_row(void *code, const char *name, const char *label, int n, int
     printf("%s|%s|%llu|%u\n", name, label, (unsigned long long)(least * 10 / WORDS), found);
 }
 
-/* Changes symbols of a word, of which the first so many are marked, to others; of an identifier bits are inverted. */
+/* Changes symbols of a codeword, the first of which are erased, to others; in an NID it inverts bits. */
 static void damage(int j, int n, int marks, int wrong, int bits) {
     char changed[LONGEST] = {0};
     for (int count = 0; count < marks + wrong;) {
@@ -53,7 +53,7 @@ static void damage(int j, int n, int marks, int wrong, int bits) {
     }
 }
 
-/* Reed-Solomon words. */
+/* Times Reed-Solomon codewords. */
 static void symbols(const char *name, int n, int k, const struct row *row) {
     void *code = init_rs_char(6, 0x43, 1, 1, n - k, 63 - n);
     for (int j = 0; j < WORDS; j++) {
@@ -67,7 +67,7 @@ static void symbols(const char *name, int n, int k, const struct row *row) {
     free_rs_char(code);
 }
 
-/* Identifiers: multiples of the generator polynomial, a bit to a symbol. */
+/* Times NIDs: multiples of the generator polynomial, a bit to a symbol. */
 static void identifiers(const struct row *row) {
     void *code = init_rs_char(6, 0x43, 1, 1, 22, 0);
     for (int j = 0; j < WORDS; j++) {

@@ -1,9 +1,9 @@
 # The programs of bench/ in Rattle, as crates of a copy of the checkout. A script sets $top, the checkout, and reads this by `.`; it is for bash.
 #
-# The gate refuses a file of Rattle outside crates/, so the files end in .rt.txt here.
+# The merge gate refuses a file of Rattle outside crates/, so the files end in .rt.txt here.
 # shellcheck shell=bash disable=SC2154
 
-# Puts the two programs beside the crates of the copy at $1.
+# Copies the two programs beside the crates of the copy at $1.
 add_programs() {
     local coders=$1/crates/p25_bench units=$1/crates/p25_bench_units file
     mkdir -p -- "$coders/src" "$units/src" "$units/proofs/main"

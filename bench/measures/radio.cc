@@ -34,7 +34,7 @@ std::uint64_t next() {
     return state >> 20;
 }
 
-// The machine of a rate: the state after a symbol is that symbol, and a step sends the nibble of its point.
+// Returns the machine of a rate: the state after a symbol is that symbol, and a step sends the nibble of its point.
 gr::trellis::fsm machine(int states, const std::vector<int> &table) {
     std::vector<int> after;
     std::vector<int> sent;
@@ -45,13 +45,13 @@ gr::trellis::fsm machine(int states, const std::vector<int> &table) {
     return gr::trellis::fsm(states, states, points, after, sent);
 }
 
-// A block: the symbols of a path, and the nibbles that are received of it.
+// A block: the symbols of a path, and its received nibbles.
 struct block {
     std::vector<unsigned char> path;
     std::vector<int> received;
 };
 
-// A random path, and the nibbles that are sent for it.
+// Returns a random path, and its transmitted nibbles.
 block random_block(const gr::trellis::fsm &code) {
     block made;
     int from = 0;
@@ -64,7 +64,7 @@ block random_block(const gr::trellis::fsm &code) {
     return made;
 }
 
-// Inverts so many bits of nibbles.
+// Inverts a number of bits of nibbles.
 void damage(std::vector<int> &nibbles_sent, int wrong) {
     std::vector<bool> changed(4 * steps);
     while (wrong > 0) {
@@ -77,17 +77,17 @@ void damage(std::vector<int> &nibbles_sent, int wrong) {
     }
 }
 
-// A reader of blocks: GNU Radio's, and what it reads.
+// A decoder of blocks: GNU Radio's, and its input.
 struct reader {
     explicit reader(const gr::trellis::fsm &code) : inner(gr::trellis::viterbi<unsigned char>::make(code, steps, 0, 0)) {
-        // The reader tells how many items it took, which nobody asks for here.
+        // The decoder returns how many items it took, which nothing needs here.
         inner->set_detail(gr::make_block_detail(0, 0));
         for (int i = 0; i < points * points; i++) {
             apart[i / points][i % points] = static_cast<float>(__builtin_popcount(i / points ^ i % points));
         }
     }
 
-    // Fills the metrics of a block and finds the nearest path. Answers whether it is the one that was sent.
+    // Fills the metrics of a block and finds the nearest path. Returns whether it is the one transmitted.
     bool read(const block &one) {
         for (int step = 0; step < steps; step++) {
             const float *row = apart[one.received[step]];
@@ -106,7 +106,7 @@ struct reader {
     std::vector<void *> outputs = {symbols.data()};
 };
 
-// Prints the least time of a block with so many wrong bits, and how many were read as they were sent.
+// Prints the least time of a block with a number of bit errors, and how many blocks decoded correctly.
 void time_blocks(const char *name, const char *label, const gr::trellis::fsm &code, int wrong) {
     std::vector<block> made;
     for (int i = 0; i < blocks; i++) {

@@ -1,5 +1,5 @@
-# What bench/measures/run, bench/measures/stack, bench/tests/stack and bindings/speed share. A script sets $top, the checkout, and $room, a folder of its own,
-# and reads this by `.`.
+# The functions that bench/measures/run, bench/measures/stack, bench/tests/stack and bindings/speed share. A script sets $top, the checkout, and $room, a
+# folder of its own, and reads this by `.`.
 # shellcheck shell=sh disable=SC2154
 
 # Makes the file $room/input, of $2 MiB, that repeats the file $1.
@@ -13,7 +13,7 @@ repeat_file() {
     truncate -s "$octets" "$room/input"
 }
 
-# Prints the level of each two bits that it reads, as they are sent: 01 is 96, 00 is 32, 10 is -32 and 11 is -96.
+# Prints the nominal level of each two bits that it reads: 01 is 96, 00 is 32, 10 is -32 and 11 is -96.
 levels_of() {
     od -An -v -tx1 | tr -d ' \n' | sed 's/0/\x20\x20/g; s/1/\x20\x60/g; s/2/\x20\xe0/g; s/3/\x20\xa0/g
         s/4/\x60\x20/g; s/5/\x60\x60/g; s/6/\x60\xe0/g; s/7/\x60\xa0/g; s/8/\xe0\x20/g; s/9/\xe0\x60/g; s/a/\xe0\xe0/g; s/b/\xe0\xa0/g
@@ -34,7 +34,7 @@ places() {
     awk 'BEGIN { for (i = 0; i < 125; i++) for (j = 0; j < 9; j++) printf "%s%d", i + j ? "," : "", int((320 + 196 * i + 11 * j) * 72 / 70) }'
 }
 
-# Puts the lines of the file $3 into docs/SPEED.md, between the comments $1 and $2.
+# Writes the lines of the file $3 into docs/SPEED.md, between the comments $1 and $2.
 write_tables() {
     awk -v begin="<!-- $1 -->" -v end="<!-- $2 -->" -v tables="$3" '
         $0 == end { inside = 0 }

@@ -1,8 +1,8 @@
-/* Measures how much stack a program takes: loaded with it, this paints the stack before the program begins, as bindings/stack.c does for the library,
-   and counts at its end the paint that is left.
+/* Measures how much stack a program takes. This is loaded with the program, and fills the stack with a pattern before the program begins, as bindings/stack.c
+   does for the library. At the end it counts how much of the pattern is left.
 
    usage: cc -O2 -fPIC -shared -o stack.so stack.c && LD_PRELOAD=./stack.so PROGRAM..
-          writes the octets below the beginning of the stack to the file that the variable STACK names; words and environment are not counted */
+          writes the octets below the beginning of the stack to the file that the variable STACK names; arguments and environment are not counted */
 #include <stdint.h>
 #include <stdio.h>
 #include <stdlib.h>

@@ -1,7 +1,7 @@
-# Makes the three tables of what was timed: the commands on recordings, the other calls, and the coders. Reads the figures wished for (`name|case|figure`), of
-# which one may be so many times another one above it (``1.2 times `repair` `` of the same recording), and then the lines of what was timed, of several
-# turns: of a call `call|words|input|seconds|KiB|octets|COUNT UNITS|kind`, and of a coder `program|name|case|tenths of a nanosecond|sum`. A figure that misses
-# what was wished for has that in brackets behind it.
+# Makes the three tables of times: the commands on recordings, the other calls, and the coders. Reads the goals (`name|case|figure`), which may be multiples
+# of a goal above them, as ``1.2 times `repair` `` of the same recording. Then it reads the measured lines of several turns: for a call
+# `call|words|input|seconds|KiB|octets|COUNT UNITS|kind`, and for a coder `program|name|case|tenths of a nanosecond|sum`. A figure that misses its goal has
+# the goal in brackets after it.
 BEGIN {
     FS = "|"
     mib = 1048576
@@ -9,8 +9,8 @@ BEGIN {
     for (n = 1; n <= count_of_columns; n++) is_column[columns[n]] = 1
 }
 
-# The seconds of a figure that is wished for. A call is compared with `repair` of the same recording, and a block from levels with one from bits
-# that has to be searched for.
+# Returns the seconds of a goal. A call is compared with `repair` of the same recording, and a block from soft symbols with one from bits that has to be
+# searched for.
 function seconds_of(name,   parts) {
     split(goals[name], parts, " ")
     if (parts[3] == "`repair`") return parts[1] * taken["repair" substr(name, index(name, "|"))] + 0.000001
@@ -18,18 +18,18 @@ function seconds_of(name,   parts) {
     return parts[1] * (parts[2] == "s" ? 1 : parts[2] == "µs" ? 0.000001 : 0.000000001)
 }
 
-# What was wished for, in brackets, if it is missed.
+# Returns the goal, in brackets, if it is missed.
 function missed(name, seconds) {
     return name in goals && seconds > seconds_of(name) ? " (" goals[name] ")" : ""
 }
 
-# How many units or lines in a second.
+# Returns how many units or lines in a second.
 function rate(count, seconds,   parts) {
     split(count, parts, " ")
     return parts[1] == 0 || seconds == 0 ? "" : sprintf("%.0f", parts[1] / seconds)
 }
 
-# Microseconds, of which short ones have four decimals.
+# Returns microseconds; short times have four decimals.
 function micros(seconds) {
     return sprintf(seconds < 0.0000001 ? "%.4f" : "%.2f", seconds * 1000000)
 }
@@ -51,7 +51,7 @@ function keep_call(   name, seconds) {
     is_recording[name] = $8 == "recording"
 }
 
-# The row of a recording: the seconds of each command, the units in a second of `show`, and the most memory of them all.
+# Prints the row of a recording: the seconds of each command, the units in a second of `show`, and the most memory of them all.
 function row_of_input(input,   n, name, row, most) {
     row = "| " input " |"
     for (n = 1; n <= count_of_columns; n++) {
@@ -62,14 +62,14 @@ function row_of_input(input,   n, name, row, most) {
     print row " " rates["show|" input] " | " most (most > 4096 ? " (4096)" : "") " |"
 }
 
-# The row of another call.
+# Prints the row of another call.
 function row_of_call(name,   parts) {
     split(name, parts, "|")
     printf("| `%s` | %s | %.2f%s | %s | %s |\n", parts[1], parts[2], taken[name], missed(name, taken[name]), rates[name],
         memory[name] (is_recording[name] && memory[name] > 4096 ? " (4096)" : ""))
 }
 
-# The row of a coder, beside the program that does the same. The name of a coder is in its first row alone.
+# Prints the row of a coder, beside the program that does the same. The name of a coder is in its first row alone.
 function row_of_coder(name, is_first,   own, mark, other) {
     own = least["coders|" name] / 10000000000
     mark = ("libfec|" name) in least ? "libfec" : "radio"
@@ -92,7 +92,7 @@ function keep(name, key) {
     if (!(key in least) || $4 < least[key]) least[key] = $4
 }
 
-# The head of a table of so many columns.
+# Prints the head of a table with a number of columns.
 function head(titles,   n, parts, row) {
     print titles
     for (n = split(titles, parts, "|") - 2; n > 0; n--) row = row "|---"

@@ -1,7 +1,7 @@
-# What the test programs in shell share. Each sets $top, the checkout, and then reads this by `.`; it is plain sh.
+# The functions that the test programs in shell share. Each sets $top, the checkout, and then reads this by `.`; it is plain sh.
 #
-# A name in CDPATH leads no `cd` elsewhere, and words are ordered by their octets. The program and its companions are in the path. $room is a folder
-# that is taken away at the end. A test is counted by one of the calls below, which prints what failed; `ended` prints the last line.
+# A name in CDPATH leads no `cd` elsewhere, and words are ordered by their octets. The program and its helper scripts are in the path. $room is a folder that
+# is removed at the end. One of the functions below counts a test, and prints a failure; `ended` prints the last line.
 # shellcheck shell=sh disable=SC2154
 unset CDPATH
 LC_ALL=C
@@ -29,7 +29,7 @@ pass() {
 # Counts a test: two files are the same.
 same() { pass "$1" cmp -s -- "$2" "$3"; }
 
-# Counts a test: a text is that which is wanted.
+# Counts a test: a text is the expected one.
 text() {
     if [ "$2" = "$3" ]; then
         passed=$((passed + 1))
@@ -39,7 +39,7 @@ text() {
     fi
 }
 
-# Counts a test: what stands in a file, $2, is what a document, $3, says; prints how they differ.
+# Counts a test: the text of a file, $2, is that of a document, $3; prints how they differ.
 as_written() {
     if cmp -s -- "$2" "$3"; then
         passed=$((passed + 1))
@@ -52,23 +52,23 @@ as_written() {
 
 skip() { echo "skipped: $1"; }
 
-# Prints how many tests passed and failed, and answers whether none failed.
+# Prints how many tests passed and failed, and succeeds if none failed.
 ended() {
     echo "$passed passed, $failed failed"
     [ "$failed" -eq 0 ]
 }
 
-# Ends with a word on standard error where the program is not proved: a trial build takes half a minute for each call.
+# Ends with a message on standard error if the program is not proved, because a trial build takes half a minute for each call.
 want_program() {
     [ -z "$(p25 show </dev/null 2>&1)" ] && return
     echo "$1: the proved program is wanted: ./prove makes it" >&2
     exit 1
 }
 
-# Digits 0, as many as the word says.
+# Prints as many digits 0 as the argument states.
 zeros() { printf "%0$1d" 0; }
 
-# Lines of all kinds of units, with none, one and several blocks.
+# Prints lines of all types of units, with none, one and several blocks.
 kinds() {
     echo "hdu nac=293 mi=0123456789abcdef01 mfid=00 algid=84 kid=1234 tgid=0064"
     echo "ldu1 nac=293 lc=000000000064001001 lsd=1234 voice=$(zeros 324)"

@@ -1,5 +1,5 @@
-//! What a fuzzer tries on the crate: any octets as a recording, as levels, as lines of units and as a script. What the documentation promises is
-//! asserted, and the conditions of calls are checked by the crate's own assertions.
+//! The tests of a fuzzer on the crate: any octets as a recording, as levels, as lines of units and as a script. The promises of the documentation are
+//! asserted, and the crate's own assertions check the conditions of calls.
 
 use p25::bits::BitBuf;
 use p25::io::{Failed, Sink, SteadySource};
@@ -22,7 +22,7 @@ impl Sink for Kept {
     }
 }
 
-// Makes a call of the program, in reads of at most so many octets, and returns what it writes and how it ends.
+// Makes a call of the program, in reads of at most `reads` octets, and returns its output and its outcome.
 fn called(words: &[&[u8]], octets: &[u8], piece: usize) -> (Vec<u8>, Outcome) {
     let mut list = Words::new();
     for word in words {
@@ -33,7 +33,7 @@ fn called(words: &[&[u8]], octets: &[u8], piece: usize) -> (Vec<u8>, Outcome) {
     (sink.0, outcome)
 }
 
-// Items lie end to end and cover every bit, and each whole unit builds again: by its text, and by its bits.
+// Checks that items lie end to end and cover every bit, and that each whole unit builds again: from its text, and from its bits.
 fn try_items(octets: &[u8]) {
     let (mut scanner, mut end) = (Scanner::new(), 0);
     let mut take = |scanner: &mut Scanner| {
@@ -74,7 +74,7 @@ fn try_unit(frame: &Frame) {
     assert!(matches!(&found, Some(Item::Whole { frame: sent, .. }) if sent.unit == frame.unit), "the bits of a unit are read as the unit");
 }
 
-// Where the items of a recording are, how many bits they cover, and whether they are whole units.
+// Returns the positions of the items of a recording, how many bits they cover, and whether they are whole units.
 fn extents(octets: &[u8]) -> Vec<(u64, u64, bool)> {
     let (mut scanner, mut found) = (Scanner::new(), Vec::new());
     for octet in octets.iter().map(Some).chain([None]) {
@@ -89,8 +89,8 @@ fn extents(octets: &[u8]) -> Vec<(u64, u64, bool)> {
     found
 }
 
-// The output does not depend on the reads and has the length that the command promises. A second call changes nothing: always for `follow`, and for the
-// others if the scan finds the same extents again (the bits that they write of a unit can make the header of a packet before it decode).
+// Checks that the output does not depend on the reads and has the length that the command promises. A second call changes nothing: always for `follow`, and
+// for the others if the scan finds the same extents again. The bits that they write of a unit can make the header of a packet before it decode.
 fn try_recording(octets: &[u8], piece: usize) {
     let before = extents(octets);
     for words in [&[b"repair".as_slice()] as &[&[u8]], &[b"follow"], &[b"relay", b"2a1", b"2"]] {
@@ -125,7 +125,7 @@ fn try_lines(lines: &[u8], piece: usize) {
     }
 }
 
-/// Tries octets: the first says what they are, the second how many are read at a time.
+/// Tries octets: the first chooses the kind of input, the second how many are read at a time.
 fn try_octets(data: &[u8]) {
     let [what, piece, octets @ ..] = data else {
         return;
@@ -139,16 +139,16 @@ fn try_octets(data: &[u8]) {
     }
 }
 
-/// What libFuzzer calls.
+/// Tries the octets of libFuzzer, which calls this.
 ///
 /// # Safety
 ///
-/// So many octets are readable at `data`.
+/// `size` octets are readable at `data`.
 #[unsafe(no_mangle)]
 #[allow(non_snake_case)]
 pub unsafe extern "C" fn LLVMFuzzerTestOneInput(data: *const u8, size: usize) -> i32 {
     if size > 0 {
-        // SAFETY: the caller says that so many octets are readable.
+        // SAFETY: the caller promises that this many octets are readable.
         try_octets(unsafe { std::slice::from_raw_parts(data, size) });
     }
     0

@@ -1,5 +1,5 @@
-//! The names that Rattle's standard library has and Rust's does not, and no others: allocators that are passed on, texts and lists
-//! whose allocation may fail, the runtime that `main` is given.
+//! The names that Rattle's standard library has and Rust's does not, and no others. These are allocators that are passed on, texts
+//! and lists whose allocation may fail, and the runtime that is the argument of `main`.
 //!
 //! A name of Rust's standard library never means something else here. There is no unsafe code.
 #![cfg_attr(not(feature = "std"), no_std)]

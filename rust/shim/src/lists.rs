@@ -4,7 +4,7 @@ use crate::alloc::{AllocError, Global};
 use core::fmt;
 use core::ops::{Deref, DerefMut};
 
-/// A copy that may fail. Rust's own `Clone` ends the program where memory is wanting.
+/// A copy that may fail. Rust's own `Clone` ends the program if an allocation fails.
 pub trait TryClone: Sized {
     /// Returns a copy.
     fn try_clone(&self) -> Result<Self, AllocError>;
@@ -16,7 +16,7 @@ impl<T: Clone> TryClone for T {
     }
 }
 
-/// A list on the heap. What makes it longer reserves first, and returns an error if that fails.
+/// A list on the heap. A call that makes it longer reserves first, and returns an error if that fails.
 #[derive(Clone, PartialEq, Eq)]
 pub struct Vec<T>(heap::vec::Vec<T>);
 
@@ -36,7 +36,7 @@ impl<T> Vec<T> {
         Ok(list)
     }
 
-    /// Returns a list of one element so many times.
+    /// Returns a list of `count` copies of one element.
     pub fn filled(alloc: Global, item: T, count: usize) -> Result<Vec<T>, AllocError>
     where
         T: Clone,
@@ -47,7 +47,7 @@ impl<T> Vec<T> {
         Ok(list)
     }
 
-    /// Makes sure that so many more elements can be appended without an allocation.
+    /// Makes sure that this many more elements can be appended without an allocation.
     pub fn reserve(&mut self, more: usize) -> Result<(), AllocError> {
         self.0.try_reserve(more).map_err(|_| AllocError)
     }

@@ -1,6 +1,6 @@
 //! Calls of numbers that the oldest compiler lacks.
 
-/// What `cast_signed` returns, which Rust has since 1.87.
+/// The call `cast_signed`, which Rust has since 1.87.
 pub trait AsSigned {
     /// The type of the same size with a sign.
     type Signed;

@@ -1,4 +1,4 @@
-//! The runtime that `main` and the tests are given.
+//! The runtime, an argument of `main` and of the tests.
 
 use crate::alloc::Global;
 use crate::process::Abort;

@@ -4,7 +4,7 @@ use crate::alloc::Global;
 use core::fmt;
 use heap::string::String;
 
-/// What `{}` shows, as a text.
+/// The text of `{}` for a value.
 pub trait TryToString {
     /// Returns the text, or an error if the value cannot be shown or an allocation fails.
     fn try_to_string(&self, alloc: Global) -> Result<String, fmt::Error>;
@@ -27,7 +27,7 @@ impl fmt::Write for Text {
     }
 }
 
-/// Returns what these arguments show, or an error if one cannot be shown or an allocation fails.
+/// Returns the text of these arguments, or an error if one cannot be shown or an allocation fails.
 pub fn shown(_alloc: Global, arguments: fmt::Arguments<'_>) -> Result<String, fmt::Error> {
     let mut text = Text(String::new());
     fmt::write(&mut text, arguments)?;

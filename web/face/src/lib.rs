@@ -1,7 +1,7 @@
-//! The commands of `p25` as a WebAssembly module. The page writes the words of a call to `words`, and then calls `p25`, which reads and
-//! writes through the functions `read` and `write` of the page.
+//! The commands of `p25` as a WebAssembly module. The page writes the arguments of a call to `words`, and then calls `p25`, which reads and writes through
+//! the functions `read` and `write` of the page.
 //!
-//! A module makes one call: what it allocates is never freed, and the page makes another instance for the next call.
+//! A module makes one call. Its memory is never freed, and the page makes another instance for the next call.
 #![no_std]
 
 use core::alloc::{GlobalAlloc, Layout};
@@ -13,9 +13,9 @@ use p25::tool::{Line, Words, outcome_status, outcome_text, run};
 
 #[link(wasm_import_module = "page")]
 unsafe extern "C" {
-    // Writes at most so many octets of the input there, and returns how many.
+    // Writes at most this many octets of the input at a position, and returns how many.
     fn read(at: *mut u8, most: usize) -> usize;
-    // Takes so many octets of the output from there.
+    // Takes this many octets of the output from a position.
     fn write(at: *const u8, count: usize);
     // Takes the line of the outcome.
     fn tell(at: *const u8, count: usize);
@@ -25,7 +25,7 @@ struct Page;
 
 impl Source for Page {
     fn read(&mut self, buf: &mut [u8]) -> Result<usize, Failed> {
-        // SAFETY: the page writes at most so many octets, into `buf`.
+        // SAFETY: the page writes at most this many octets, into `buf`.
         let count = unsafe { read(buf.as_mut_ptr(), buf.len()) };
         if count <= buf.len() { Ok(count) } else { Err(Failed) }
     }
@@ -33,13 +33,13 @@ impl Source for Page {
 
 impl Sink for Page {
     fn write(&mut self, piece: &[u8]) -> Result<(), Failed> {
-        // SAFETY: the page reads so many octets, of `piece`.
+        // SAFETY: the page reads this many octets, of `piece`.
         unsafe { write(piece.as_ptr(), piece.len()) };
         Ok(())
     }
 }
 
-// The words of a call, with an octet 0 after each.
+// The arguments of a call, with an octet 0 after each.
 const WORDS_MOST: usize = 256;
 
 struct Room(Cell<[u8; WORDS_MOST]>);
@@ -49,7 +49,7 @@ unsafe impl Sync for Room {}
 
 static ROOM: Room = Room(Cell::new([0; WORDS_MOST]));
 
-/// Returns where the page writes the words of the call, each with an octet 0 after it: at most 256 octets.
+/// Returns the address for the arguments of the call, which the page writes, each with an octet 0 after it: at most 256 octets.
 #[unsafe(no_mangle)]
 pub extern "C" fn words() -> *mut u8 {
     ROOM.0.as_ptr().cast()
@@ -66,7 +66,7 @@ pub extern "C" fn p25() -> u32 {
     let outcome = run(Global, &words, &mut Page, &mut Page);
     let mut line = Line::new();
     outcome_text(&outcome, &mut line);
-    // SAFETY: the page reads so many octets, of `line`.
+    // SAFETY: the page reads this many octets, of `line`.
     unsafe { tell(line.octets().as_ptr(), line.octets().len()) };
     u32::from(outcome_status(&outcome))
 }
@@ -79,7 +79,7 @@ unsafe impl Sync for Growing {}
 
 const PAGE: usize = 65_536;
 
-// SAFETY: each call returns octets behind those that were returned before, aligned, or null if the memory cannot grow.
+// SAFETY: each call returns octets after those that were returned before, aligned, or null if the memory cannot grow.
 unsafe impl GlobalAlloc for Growing {
     unsafe fn alloc(&self, layout: Layout) -> *mut u8 {
         let size = || core::arch::wasm32::memory_size::<0>() * PAGE;
