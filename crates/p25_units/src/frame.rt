@@ -1,6 +1,7 @@
 //! A data unit with the status symbols that are transmitted among its bits.
 
-ghost use Rattle.std.specs.Prelude.{◌≡◌, ◌≤◌};
+ghost use Rattle.std.specs.Prelude.{◌≡◌, ◌≤◌, []};
+ghost use Rattle.p25_units.specs.Terminators.{terminator};
 ghost use Rattle.p25_units.specs.Units.{IsSendableBody, IsSoundFrame, IsWholeBody, filled_frame, frame_length_of};
 
 use crate::unit::{Body, Unit};
@@ -20,7 +21,9 @@ pub struct Frame {
 
 impl Frame {
     // Returns a frame into which another is decoded. It is large, so it is made in a function of its own.
-    pub(crate) fn blank() -> Frame {
+    pub(crate) fn blank() -> Frame
+        ensures { result ≡ terminator 0 [] }
+    {
         Frame {
             unit: Unit::new(0, Body::Voice(VoiceUnit::End)),
             statuses: Statuses::new(),

@@ -1,13 +1,16 @@
 //! All laws of data units that a scanner needs, the decoding of a data unit, and terminators among all data units. Each
-//! function states what is proved, and makes no call.
+//! function states what is proved, and calls at most the function that it states something of.
 
-ghost use Rattle.std.specs.Prelude.{◌≡◌, ℕ, ◌<◌, Bool, List, ◌++◌, Ok, Err, length, take, ◌↔◌};
-ghost use Rattle.p25_status.specs.{declared.fields.Field.{Field}, declared.symbols.Status.{Status}};
-ghost use Rattle.p25_units.specs.{Fixes.{fixes_of}, ImagePlaces.{IsImage}, Items.{unit_item_of}};
+ghost use Rattle.std.specs.Prelude.{◌≡◌, ℕ, ◌<◌, ◌≤◌, Bool, true, List, ◌++◌, Ok, Err, length, take, drop, ◌↔◌};
+ghost use Rattle.p25_status.specs.{Sync.{has_sync}, declared.fields.Field.{Field}, declared.symbols.Status.{Status}};
+ghost use Rattle.p25_units.specs.{Begins.{IsBegun}, Fixes.{fixes_of}, ImagePlaces.{IsImage}, Items.{unit_item_of}};
 ghost use Rattle.p25_units.specs.NeedLaws.{BegunStays, ItemCovers, ItemHasPlace, ItemIsNoGap, ItemIsSound, KnownStays, LengthIsThere, MoreIsFew, MoreWaits, SyncIsSeen};
 ghost use Rattle.p25_units.specs.{Needs.{need_of}, Readings.{unit_reading_of}, Units.{IsSendableUnit, IsSoundFrame, image_of}, WholeLaws.{WholeUnitIsRead}};
 ghost use Rattle.p25_units.specs.{WithinRadius.{IsWithinRadius, received_frame}, declared.frame.Frame.{Frame}, declared.needs.Need.TheVariants.{Length}};
 ghost use Rattle.p25_units.specs.{declared.item.Item.TheVariants.{Whole}, Terminators.{ErrorsAreFixes, TerminatorIsNear, terminator, terminator_bits}};
+
+use crate::{Begun, Need, need_synced, need_with};
+use p25_bits::BitBuf;
 
 /// **Theorem.** All laws of data units that a scanner needs.
 ///
@@ -71,3 +74,22 @@ pub fn terminator_laws()
     ensures near { TerminatorIsNear }
     ensures fixes { ErrorsAreFixes }
 {}
+
+/// **Theorem.** `need_with` returns what the bits from a position on need, also if there is no sync.
+pub fn need_at(bits: &BitBuf, at: usize, begun: &mut Begun) -> Need
+    requires there { at ≤ length bits.now }
+    requires begun { IsBegun begun.old (drop at bits.now) }
+    ensures { result ≡ need_of (drop at bits.now) }
+{
+    need_with(bits, at, begun)
+}
+
+/// **Theorem.** `need_synced` returns what the bits from a position on need if there is a sync.
+pub fn need_at_a_sync(bits: &BitBuf, at: usize, begun: &mut Begun) -> Need
+    requires there { at ≤ length bits.now }
+    requires synced { has_sync (drop at bits.now) ≡ true }
+    requires begun { IsBegun begun.old (drop at bits.now) }
+    ensures { result ≡ need_of (drop at bits.now) }
+{
+    need_synced(bits, at, begun)
+}
