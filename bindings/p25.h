@@ -74,13 +74,13 @@ enum {
                                 type */
     P25_LINE_VALUE = -15,    /* value: a value of the line does not have its form, or values do not fit each other */
     P25_PACKET_HEADER = -21, /* header: the CRC of the packet header does not agree */
-    P25_PACKET_CUT = -22,    /* cut: the packet header asks for more bits than there are */
+    P25_PACKET_CUT = -22,    /* cut: by its header the packet has more bits than there are */
     P25_PACKET_FORMAT = -23, /* format: the format of the packet is none of the three */
     P25_PACKET_CRC = -24     /* crc: the packet CRC does not agree */
 };
 
 /* Returns the word of such a number, as fprintf(stderr, "%s\n", p25_answer_name(number)) prints it, and "" for any other number. It is
-   in this header alone: a program that reads the header by another tool than a compiler has it if it wants by P25_NO_INLINE. */
+   in this header alone, and no function of the library. For a tool that is no compiler define P25_NO_INLINE, which leaves it out. */
 #ifndef P25_NO_INLINE
 static inline const char *p25_answer_name(int32_t answer) {
     switch (answer) {
@@ -176,8 +176,8 @@ int32_t p25_next_item(const uint8_t *octets, size_t n, uint64_t begin, uint64_t 
 
 /* Sets items to the items from bit from of a recording on, in order: as many as there are, at most as many as the
    buffer holds, and at most 2,147,483,647. The arguments and the items are as for p25_next_item. No text is made,
-   and text_length is 0. Returns how many items it set; the others stay. The next call begins where the last item
-   ends. Returns P25_OUTSIDE as p25_next_item does, and then all of items stays. Since 1.1. */
+   and text_length is 0. Returns how many items it set; the others stay. The next call begins at the end of the last
+   item. Returns P25_OUTSIDE as p25_next_item does, and then all of items stays. Since 1.1. */
 int32_t p25_items(const uint8_t *octets, size_t n, uint64_t begin, uint64_t from, bool ended, p25_item *items,
                   size_t room);
 
@@ -343,7 +343,7 @@ void p25_follower_begin_at(p25_follower *follower, uint64_t place);
 
    Returns how many octets it wrote, at most P25_FOLLOW_ROOM; the octets of the buffer after them stay. Else it
    writes nothing, follower stays, and it returns the first of these that applies: P25_OUTSIDE, if the item does not
-   begin where the one before it ended, a bit of it is not among the octets, or the numbers of the item or of
+   begin at the end of the one before it, a bit of it is not among the octets, or the numbers of the item or of
    follower are refused; P25_NO_ROOM.
 
    An item is refused whose kind is none of the five; a whole or a broken data unit whose NAC is above 4095, whose
@@ -377,13 +377,13 @@ uint8_t p25_level_dibit(int8_t level);
    1.1. */
 int8_t p25_dibit_level(uint8_t dibit);
 
-/* Writes the octets of soft symbols, four in each; if they fill no octet, its last bits are 0. If the levels are
-   those of one whole or broken data unit, no more and no fewer, the blocks that fail of a packet (PDU) are decoded
-   from the levels, as p25 soft decodes them. Give it the levels of a broken data unit that begins at an even bit.
-   The CRCs of these blocks are not looked at: p25_packet_read of the output does that.
+/* Writes the octets of soft symbols, four in each; if they fill no octet, its last bits are 0. If the soft symbols
+   are those of one whole or broken data unit, no more and no fewer, the blocks of a packet (PDU) that fail are
+   decoded from them, as p25 soft decodes them. Give it the soft symbols of a broken data unit that begins at an even
+   bit. The call does not look at the CRCs of these blocks: p25_packet_read of the output does that.
 
    Returns how many octets it wrote, at most P25_UNIT_ROOM; the octets of the buffer after them stay. Else it writes
-   nothing and returns the first of these that applies: P25_OUTSIDE, if there are more than P25_LEVELS_MOST levels;
+   nothing and returns the first of these that applies: P25_OUTSIDE, if there are more than P25_LEVELS_MOST of them;
    P25_NO_ROOM. Since 1.1. */
 int32_t p25_soften(const int8_t *levels, size_t n, uint8_t *into, size_t room);
 
@@ -445,8 +445,8 @@ typedef struct p25_fields {
 } p25_fields;
 
 /* Sets fields to those of the whole data unit that begins at bit from of a recording, whose octets are given as for
-   p25_next_item, and returns P25_FIELDS. For an item that was returned, from is its place. Returns P25_OUTSIDE as
-   p25_next_item does, or P25_NO_UNIT if no whole data unit begins there; then fields stays. Since 1.1. */
+   p25_next_item, and returns P25_FIELDS. For an item that was returned, from is its first bit. Returns P25_OUTSIDE
+   as p25_next_item does, or P25_NO_UNIT if no whole data unit begins there; then fields stays. Since 1.1. */
 int32_t p25_unit_fields(const uint8_t *octets, size_t n, uint64_t begin, uint64_t from, p25_fields *fields);
 
 /* Writes the octets of the voice unit of fields, with the status symbol status, 0 to 3, everywhere. Its member duid
@@ -473,7 +473,7 @@ enum {
 };
 
 /* A call, as p25 calls prints it: a longest run of voice units without a break inside, with voice in it (LDU1 or
-   LDU2). There is a break before a header, after a terminator, where the network access code (NAC) changes, at a
+   LDU2). There is a break before a header, after a terminator, at a change of the network access code (NAC), at a
    packet, and before a voice unit that begins more than 3,456 bits after the end of the one before it. */
 typedef struct p25_call {
     uint64_t place;    /* the bit at which its first data unit begins */
@@ -509,16 +509,16 @@ void p25_caller_begin(p25_caller *caller);
    calls are the same, but they come earlier. Since 1.1. */
 void p25_caller_begin_at(p25_caller *caller, uint64_t place, bool by_gap);
 
-/* Takes an item. It takes each item of a recording in order, gaps too: the first at bit 0, each other where the one
-   before it ends. The fields are those of a whole data unit, as p25_unit_fields sets them; of any other item the
+/* Takes an item. It takes each item of a recording in order, gaps too: the first at bit 0, each other at the end of
+   the one before it. The fields are those of a whole data unit, as p25_unit_fields sets them; of any other item the
    call does not look at them.
 
    Returns P25_CALL if a call ends, and sets call to it: with this item, its terminator, or with the data unit
    before, if there is a break after that one. So a call comes with the item that decides that it has ended. Returns
    P25_NO_CALL if none ends, and then call stays.
 
-   Returns P25_OUTSIDE if the item may not be taken, and then caller and call stay: it does not begin where the one
-   before it ended; it begins at bit 2^60 or after it; 2^32 - 1 items were taken; or the open run of caller ends
+   Returns P25_OUTSIDE if the item may not be taken, and then caller and call stay: it does not begin at the end of
+   the one before it; it begins at bit 2^60 or after it; 2^32 - 1 items were taken; or the open run of caller ends
    after its member reached, or has more LDU1, LDU2 or broken data units than items were taken. The last does not
    happen to one that these calls set. Since 1.1. */
 int32_t p25_caller_take(p25_caller *caller, const p25_item *item, const p25_fields *fields, p25_call *call);
@@ -529,13 +529,13 @@ int32_t p25_caller_take(p25_caller *caller, const p25_item *item, const p25_fiel
 int32_t p25_caller_finish(p25_caller *caller, p25_call *call);
 
 /* Ends the run that is open, and goes on: returns P25_CALL and sets call to the call that is open, or returns
-   P25_NO_CALL if none is. The next item begins where the last one ended, and begins a new run. A program does so if
-   a recording pauses. Returns P25_OUTSIDE if p25_caller_take refuses the numbers of caller, and then it stays. If no
-   call is returned, call stays. Since 1.1. */
+   P25_NO_CALL if none is. The next item begins at the end of the last one, and begins a new run. A program does so
+   if a recording pauses. Returns P25_OUTSIDE if p25_caller_take refuses the numbers of caller, and then it stays. If
+   no call is returned, call stays. Since 1.1. */
 int32_t p25_caller_close(p25_caller *caller, p25_call *call);
 
 /* Returns whether an item is a data unit of a call or of the open run of a caller: a whole or a broken data unit
-   that begins at its member place or after it and before place + bits. Since 1.1. */
+   whose first bit is at place of the call or after it, and before place + bits of the call. Since 1.1. */
 bool p25_call_has(const p25_call *call, const p25_item *item);
 
 /* Packets ---------------------------------------------------------------------------------------------------------- */
@@ -642,19 +642,19 @@ int32_t p25_rs_24_12_read(uint8_t symbols[24]);
    there is none, and P25_NO_LETTERS if an octet is above 63; then the octets stay. */
 int32_t p25_rs_24_16_read(uint8_t symbols[24]);
 
-/* Decodes a received word of the code (36,20), whose symbols are erased where erased is true. A codeword is
+/* Decodes a received word of the code (36,20) with erasures: the symbols whose entry of erased is true. It is
    correctable if twice the symbol errors among the others, and the erasures, are at most 16 together. Returns how
    many symbols changed; the octets become those of that codeword. Returns P25_BEYOND if there is none, and
    P25_NO_LETTERS if an octet is above 63, an erased one too; then the octets stay. */
 int32_t p25_rs_36_20_read_erased(uint8_t symbols[36], const bool erased[36]);
 
-/* Decodes a received word of the code (24,12), whose symbols are erased where erased is true. A codeword is
+/* Decodes a received word of the code (24,12) with erasures: the symbols whose entry of erased is true. It is
    correctable if twice the symbol errors among the others, and the erasures, are at most 12 together. Returns how
    many symbols changed; the octets become those of that codeword. Returns P25_BEYOND if there is none, and
    P25_NO_LETTERS if an octet is above 63, an erased one too; then the octets stay. */
 int32_t p25_rs_24_12_read_erased(uint8_t symbols[24], const bool erased[24]);
 
-/* Decodes a received word of the code (24,16), whose symbols are erased where erased is true. A codeword is
+/* Decodes a received word of the code (24,16) with erasures: the symbols whose entry of erased is true. It is
    correctable if twice the symbol errors among the others, and the erasures, are at most 8 together. Returns how
    many symbols changed; the octets become those of that codeword. Returns P25_BEYOND if there is none, and
    P25_NO_LETTERS if an octet is above 63, an erased one too; then the octets stay. */

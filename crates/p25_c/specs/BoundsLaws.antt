@@ -1,4 +1,4 @@
--- The numbers by which a caller makes room: how many octets always decide an item, how many a unit has, and what the parts of an item are below.
+-- The sizes of buffers: how many octets always decide an item, how many a unit has, and what the parts of an item are below.
 use Rattle.std.specs.Prelude.{◌≡◌, ℕ, ◌-◌, ◌/◌, ◌<◌, ◌≤◌, Bool, true, List, [], ◌∷◌, length, Some, IfOk}
 use Rattle.p25_status.specs.declared.symbols.Status.{Status}
 use Rattle.p25_units.specs.{Items.{covered}, declared.item.Item.{Item}}
@@ -7,17 +7,17 @@ use Rattle.p25_c.specs.{Places.{bridged_at, item_cut, repaired_at}, Streams.{str
 
 -- ---- what decides an item
 
--- how many octets there are from the one on that holds the bit at which an item is asked for
+-- how many octets there are from the one on that holds the bit at which a call looks for an item
 abbrev pub octets_there : ℕ → ℕ → List ℕ → ℕ
 octets_there begin from octets = length octets - (from - begin) / 8
 
--- where an item may be asked for and 3,241 octets are there, an item is told, whether more octets come or not
+-- if a call may look for an item and 3,241 octets are there, there is an item, whether more octets come or not
 abbrev pub EnoughDecide : Type 0
 EnoughDecide =
     (ended : Bool) (begin from : ℕ) (octets : List ℕ) → is_inside begin from (length octets) ≡ true → 3241 ≤ octets_there begin from octets
     → (item : Item) × (items : List Item) × (items_asked ended begin from octets ≡ Some (item ∷ items))
 
--- a stream that tells no item has room for 4,928 octets
+-- a stream that returns no item has capacity for 4,928 octets
 abbrev pub StreamsHaveRoom : Type 0
 StreamsHaveRoom = (stream : Stream) → length stream.octets ≡ 8168 → stream_asked stream ≡ Some [] → 4928 ≤ stream_room stream
 
@@ -30,7 +30,7 @@ pub record IsBoundedItem (item : Item) : Type 0 where
   pub nac : nac_told item < 4096
   pub duid : duid_told item < 16
 
--- each item that is told is such a one
+-- each item that is returned is such a one
 abbrev pub ItemsAreBounded : Type 0
 ItemsAreBounded =
     (ended : Bool) (begin from : ℕ) (octets : List ℕ) (item : Item) (items : List Item) → items_asked ended begin from octets ≡ Some (item ∷ items)

@@ -18,14 +18,14 @@ wrong_nac = negsuc 3
 abbrev pub wrong_status : ℤ
 wrong_status = negsuc 4
 
--- a call writes under a network access code (NAC) and with a status symbol that it is given as numbers; where one of them is too large, the
--- answer says so
+-- a call writes under a network access code (NAC) and with a status symbol that it is given as numbers; if one of them is too large, the
+-- returned number states which
 pub record IsWritingUnder (nac status : ℕ) (what : Status → Result (List ℕ) ℤ) (room left : List ℕ) (answer : ℤ) : Type 0 where
   pub strange_code : 4096 ≤ nac → IsWriting (Err wrong_nac) room left answer
   pub strange_symbol : nac < 4096 → 4 ≤ status → IsWriting (Err wrong_status) room left answer
   pub sent : nac < 4096 → (symbol : Status) → status_number symbol ≡ status → IsWriting (what symbol) room left answer
 
--- one of the two is too large, and this is the answer that says so
+-- one of the two is too large, and this is the returned number that states which
 abbrev pub IsRefused : ℕ → ℕ → ℤ → Type 0
 IsRefused nac status answer = ((4096 ≤ nac) × (answer ≡ wrong_nac)) ⊎ ((nac < 4096) × (4 ≤ status) × (answer ≡ wrong_status))
 
@@ -37,7 +37,7 @@ fault_answer Kind = negsuc 12
 fault_answer Key = negsuc 13
 fault_answer Value = negsuc 14
 
--- the octets of the unit that a line is read as, with one status symbol everywhere, or why the line is refused
+-- the octets of the unit of a line, with one status symbol everywhere, or why the line is refused
 abbrev pub unit_built : Status → Result UnitParts LineFault → Result (List ℕ) ℤ
 unit_built status (Ok unit) = Ok (image_octets status unit)
 unit_built status (Err fault) = Err (fault_answer fault)

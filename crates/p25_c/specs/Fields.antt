@@ -12,7 +12,7 @@ use Rattle.p25_c.specs.{Building.{no_unit}, Values.{flag}, declared.fields.Field
 
 -- ---- link control
 
--- what link control (LC) says of a call: kind 1 to a group, 2 from unit to unit, 0 another, which is not interpreted
+-- what link control (LC) states of a call: kind 1 to a group, 2 from unit to unit, 0 another, which is not interpreted
 abbrev pub link_told : LinkKind → LinkParts
 link_told (Group mfid emergency group source) = record { source = source; destination = 0; group = group; kind = 1; mfid = mfid; emergency = flag emergency }
 link_told (Individual mfid destination source) = record { source = source; destination = destination; group = 0; kind = 2; mfid = mfid; emergency = 0 }
@@ -75,7 +75,7 @@ body_fields nac (Packet packet) = no_fields nac duid_pdu
 abbrev pub unit_fields : UnitParts → FieldParts
 unit_fields unit = body_fields unit.nac unit.body
 
--- the unit that an item is, where it is a whole one
+-- the unit that an item is, if it is a whole one
 abbrev pub item_unit : Item → Option UnitParts
 item_unit (Whole place frame fixes) = Some frame.unit
 item_unit item = None
@@ -84,8 +84,8 @@ abbrev pub first_unit : List Item → Option UnitParts
 first_unit [] = None
 first_unit (item ∷ items) = item_unit item
 
--- what is answered of the items that are asked for: 1 where the first is a whole unit, -3 where it is none or there is none, and -1
--- where they may not be asked for
+-- the number that a call returns by the items that it finds: 1 if the first is a whole unit, -3 if it is none or there is none, and -1
+-- if the call may not look for one
 abbrev pub unit_answer : Option UnitParts → ℤ
 unit_answer None = no_unit
 unit_answer (Some unit) = pos 1
@@ -94,7 +94,7 @@ abbrev pub fields_answer : Option (List Item) → ℤ
 fields_answer None = negsuc 0
 fields_answer (Some items) = unit_answer (first_unit items)
 
--- the fields that are left: those of the unit, where there is one
+-- the fields after the call: those of the unit, if there is one
 abbrev pub unit_left : Option UnitParts → FieldParts → FieldParts
 unit_left None before = before
 unit_left (Some unit) before = unit_fields unit
@@ -113,7 +113,7 @@ wrong_duid = negsuc 7
 abbrev pub frames_held : List (List ℕ) → List VoiceFrame
 frames_held octets = map (λ frame. record { 0 = frame }) octets
 
--- the voice unit of fields by their data unit identifier (DUID), which says what is looked at
+-- the voice unit of fields by their data unit identifier (DUID), which states which of them the call looks at
 abbrev pub voice_held : FieldParts → Option VoiceUnit
 voice_held fields =
     if fields.duid == duid_hdu then Some (Header (record { mi = fields.mi; mfid = fields.mfid; algid = fields.algid; kid = fields.kid; tgid = fields.tgid }))

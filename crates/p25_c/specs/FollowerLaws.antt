@@ -22,13 +22,13 @@ abbrev pub FollowersFollow : Type 0
 FollowersFollow =
     (octets : List ℕ) → followed_series fresh_follower (items_of 0 (octet_bits octets)) (octet_bits octets) ≡ whole_octets (follow_of (octet_bits octets))
 
--- and what one that has begun at a place writes of any items that lie end to end over some bits is what is written of these
+-- and one that has begun at a position writes of any items that lie end to end over some bits what is written of these
 abbrev pub FollowersFollowFrom : Type 0
 FollowersFollowFrom =
     (place : ℕ) (items : List Item) (bits : List Bool)
     → followed_series (record fresh_follower { reached = place }) items bits ≡ whole_octets (followed_by true None [] items bits)
 
--- the bits that it looks at of an item are the same in every piece of the recording that has them
+-- the bits that it looks at of an item are the same in every chunk of the recording that has them
 abbrev pub ItemsAreCut : Type 0
 ItemsAreCut =
     (recording : List ℕ) (given : Given) (item : Item) → IsPiece recording given

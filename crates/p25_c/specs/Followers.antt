@@ -40,7 +40,7 @@ abbrev pub name_duid : Option (ℕ × ℕ) → ℕ
 name_duid None = 0
 name_duid (Some name) = name.1
 
--- a follower by what it keeps, where the next item begins at a bit
+-- a follower by what it keeps, whose next item begins at a bit
 abbrev pub follower_told : ℕ → FollowedParts → FollowerState
 follower_told reached parts = record {
   reached = reached;
@@ -59,7 +59,7 @@ fresh_follower = record { reached = 0; nac = 0; stretch = 0; duid = 0; has_unit 
 
 -- ---- items
 
--- the item that numbers tell, as far as a follower looks at it: the name of a unit, a sync with too few bits after it, or a stretch
+-- the item of numbers, as far as a follower looks at it: the name of a unit, a sync with too few bits after it, or a stretch
 abbrev pub item_held : ItemParts → Item
 item_held item =
     if item.kind == 1 || item.kind == 2 then Broken 0 item.bits item.nac item.duid []
@@ -74,7 +74,7 @@ is_item_told item =
     if item.kind == 1 || item.kind == 2 then is_unit_told item
     else if item.kind == 5 then true else (item.kind == 3 || item.kind == 4) && nat_le item.bits 4096
 
--- an item may be taken, of which octets are given from bit `begin` on: it begins where the last one ended, and its bits are among them
+-- an item may be taken, of which octets are given from bit `begin` on: it begins at the end of the last one, and its bits are among them
 abbrev pub may_follow : FollowerState → ItemParts → ℕ → ℕ → Bool
 may_follow state item begin count = is_follower state && item.place == state.reached && is_item_told item && has_item begin item.place item.bits count
 
@@ -84,7 +84,7 @@ may_follow state item begin count = is_follower state && item.place == state.rea
 abbrev pub item_raw : ItemParts → ℕ → List ℕ → List Bool
 item_raw item begin octets = part (item.place - begin) item.bits (octet_bits octets)
 
--- the octets that are written as an item is taken, or -1 where it may not be
+-- the octets that are written as an item is taken, or -1 if it may not be
 abbrev pub item_followed : FollowerState → ItemParts → ℕ → List ℕ → List ℕ
 item_followed state item begin octets = followed_reporting.piece (parts_held state) (item_held item) (item_raw item begin octets)
 
@@ -96,18 +96,18 @@ abbrev pub item_behind : FollowerState → ItemParts → ℕ → List ℕ → Fo
 item_behind state item begin octets =
     follower_told (item.place + item.bits) (followed_reporting.behind (parts_held state) (item_held item) (item_raw item begin octets))
 
--- the follower that is left: behind the item, where it may be taken and there is room for what is written
+-- the follower after the call: after the item, if it may be taken and the buffer has capacity for what is written
 abbrev pub follower_left : FollowerState → ItemParts → ℕ → List ℕ → ℕ → FollowerState
 follower_left state item begin octets room =
     if may_follow state item begin (length octets)
     then (if nat_le (length (item_followed state item begin octets)) room then item_behind state item begin octets else state)
     else state
 
--- the octets that are written at the end, or -1 where the numbers fit no follower
+-- the octets that are written at the end, or -1 if the numbers fit no follower
 abbrev pub last_octets : FollowerState → Result (List ℕ) ℤ
 last_octets state = if is_follower state then Ok (followed_reporting.closing (parts_held state)) else Err outside
 
--- the follower that is left then: one that no item was taken by, where there is room
+-- the follower after that: one that has taken no item, if the buffer has capacity
 abbrev pub ended_left : FollowerState → ℕ → FollowerState
 ended_left state room =
     if is_follower state then (if nat_le (length (followed_reporting.closing (parts_held state))) room then fresh_follower else state) else state

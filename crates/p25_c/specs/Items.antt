@@ -1,4 +1,4 @@
--- What is told of the items of a recording.
+-- The items of a recording as numbers and texts.
 use Rattle.std.specs.Prelude.{ℕ, ℤ, pos, negsuc, ◌+◌, ◌-◌, ◌*◌, ◌%◌, ◌^◌, ◌==◌, ◌&&◌, nat_le, Bool, if◌then◌else◌, List, [], ◌∷◌, length, drop, Option, Some, None}
 use Rattle.p25_bits.specs.Bits.{octet_bits}
 use Rattle.p25_stream.specs.Items.{items_by}
@@ -7,18 +7,18 @@ use Rattle.p25_units.specs.{Items.{covered, place_of}, Units.{body_duid}, declar
 use Rattle.p25_units.specs.declared.item.Item.TheVariants.{Whole, Broken, NoUnit, Gap, Cut}
 use Rattle.p25_c.specs.{Rooms.{text_left}, declared.items.ItemParts.{ItemParts}}
 
--- an item may be asked for at a place, where so many octets of the recording stand from bit `begin` on, a multiple of 8: at one of
+-- a call may look for an item at a position, given that so many octets of the recording begin at bit `begin`, a multiple of 8: at one of
 -- their bits or at their end
 abbrev pub is_inside : ℕ → ℕ → ℕ → Bool
 is_inside begin from count = ((begin % 8) == 0) && nat_le begin from && nat_le from (begin + 8 * count) && nat_le from (2 ^ 59)
 
--- the items that begin at a place of a recording, where octets of it stand from bit `begin` on: all of them where no octets come
--- after these, else those that they decide. None where they may not be asked for
+-- the items that begin at a position of a recording, given that octets of it begin at bit `begin`: all of them if no octets come after
+-- these, else those that they decide. None if a call may not look for one there
 unfoldable pub items_asked : Bool → ℕ → ℕ → List ℕ → Option (List Item)
 items_asked ended begin from octets =
     if is_inside begin from (length octets) then Some (items_by ended from (drop (from - begin) (octet_bits octets))) else None
 
--- what is answered: 1 where there is an item, 0 where there is none, and -1 where none may be asked for
+-- the number that a call returns: 1 if there is an item, 0 if there is none, and -1 if it may not look for one
 abbrev pub item_answer : Option (List Item) → ℤ
 item_answer None = negsuc 0
 item_answer (Some []) = pos 0
@@ -60,12 +60,12 @@ parts_of item = record {
   kind = kind_number item;
 }
 
--- the numbers that are left once a place was asked for: those of the first item there, where there is one
+-- the numbers after a call: those of the first item there, if there is one
 abbrev pub item_left : Option (List Item) → ItemParts → ItemParts
 item_left (Some (item ∷ items)) before = parts_of item
 item_left asked before = before
 
--- the text that is left once a place was asked for: that of the first item there, where there is one and room for it
+-- the text after a call: that of the first item there, if there is one and the buffer has capacity for it
 abbrev pub item_text_left : Option (List Item) → List ℕ → List ℕ
 item_text_left (Some (item ∷ items)) before = text_left (item_text_of item) before
 item_text_left asked before = before

@@ -7,7 +7,7 @@ use Rattle.p25_c.specs.{Items.{parts_of}, declared.items.ItemParts.{ItemParts}}
 abbrev pub numbers_of : Item → ItemParts
 numbers_of item = record (parts_of item) { text_length = 0 }
 
--- the most items that one call tells
+-- the most items that one call returns
 abbrev pub many_most : ℕ
 many_most = 2147483647
 
@@ -15,12 +15,12 @@ many_most = 2147483647
 abbrev pub put_first : {X : Type 0} → List X → List X → List X
 put_first first before = first ++ drop (length first) before
 
--- what is answered: how many items are told, or -1 where none may be asked for
+-- the number that a call returns: how many items it sets, or -1 if it may not look for one
 abbrev pub many_answer : Option (List Item) → ℕ → ℤ
 many_answer None room = negsuc 0
 many_answer (Some items) room = pos (length (take (min room many_most) items))
 
--- what the room holds then
+-- the buffer after the call
 abbrev pub many_left : Option (List Item) → List ItemParts → List ItemParts
 many_left None before = before
 many_left (Some items) before = put_first (map numbers_of (take (min (length before) many_most) items)) before

@@ -53,7 +53,7 @@ no_packet nac head = record {
   octets = replicate 2032 0;
 }
 
--- the header of a packet under a network access code (NAC), with nothing behind it
+-- the header of a packet under a network access code (NAC), with nothing after it
 abbrev pub head_told : ℕ → PacketHead → PacketParts
 head_told nac head = record (no_packet nac head.0) {
   llid = head_llid head;
@@ -68,7 +68,7 @@ head_told nac head = record (no_packet nac head.0) {
   response_status = response_status head;
 }
 
--- the slots of a confirmed packet behind its header
+-- the slots of a confirmed packet after its header
 abbrev pub slots_told : List Slot → PacketParts → PacketParts
 slots_told slots head = record head {
   length = 16 * length slots;
@@ -87,16 +87,16 @@ packet_told nac (Plain packet) = record (head_told nac packet.head) { length = l
 abbrev pub unit_bits : ℕ → List ℕ → List Bool
 unit_bits bit octets = drop (bit % 8) (octet_bits (take 3241 (drop (bit / 8) octets)))
 
--- the packet of the unit that some bits begin with, where they are as many as the shortest has
+-- the packet of the unit that some bits begin with, if they are as many as the shortest has
 abbrev pub bits_packet : List Bool → Result (ℕ × Packet) Field
 bits_packet bits = if nat_le 360 (length bits) then packet_unit_of bits else Err Sync
 
--- the packet of the unit that begins at a place of a recording, where octets of it stand from bit `begin` on; None where it may not be
--- asked for
+-- the packet of the unit that begins at a position of a recording, given that octets of it begin at bit `begin`; None if a call may not look
+-- for one there
 abbrev pub packet_asked : ℕ → ℕ → List ℕ → Option (Result (ℕ × Packet) Field)
 packet_asked begin from octets = if is_inside begin from (length octets) then Some (bits_packet (unit_bits (from - begin) octets)) else None
 
--- -21 to -24: why there is no packet, where one begins; -3 where none begins
+-- -21 to -24: why there is no packet, if one begins; -3 if none begins
 abbrev pub packet_fault : Field → ℤ
 packet_fault PacketHeader = negsuc 20
 packet_fault Length = negsuc 21
@@ -121,19 +121,19 @@ packet_left (Some (Err field)) before = before
 
 -- ---- a packet that is built
 
--- -9: what is given is no packet that can be sent
+-- -9: the numbers and octets are those of no packet that can be sent
 abbrev pub wrong_packet : ℤ
 wrong_packet = negsuc 8
 
--- the block at a place can be sent: it is good, and its serial number has seven bits
+-- the block at an index can be sent: it is good, and its serial number has seven bits
 abbrev pub is_sendable_at : PacketParts → ℕ → Bool
 is_sendable_at parts j = is_set (slice_index parts.good j) && nat_lt (slice_index parts.serials j) 128
 
--- the block at a place
+-- the block at an index
 abbrev pub slot_held : PacketParts → ℕ → Slot
 slot_held parts j = Good (record { serial = slice_index parts.serials j; octets = part (16 * j) 16 parts.octets })
 
--- the first n blocks, where each can be sent
+-- the first n blocks, if each can be sent
 unfoldable pub slots_held : ℕ → PacketParts → Option (List Slot)
 slots_held zero parts = Some []
 slots_held (suc n) parts = if is_sendable_at parts n then option_map (λ slots. slots ++ slot_held parts n ∷ []) (slots_held n parts) else None

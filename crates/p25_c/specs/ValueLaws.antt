@@ -1,4 +1,4 @@
--- What makes values believable: they say what the items of a recording say, and what a caller answers to them are its calls.
+-- Why values can be relied on: they have what the items of a recording have, and a caller returns the calls of the recording.
 use Rattle.std.specs.Prelude.{◌≡◌, ℕ, ◌+◌, ◌<◌, ◌^◌, List, [], ◌∷◌, ◌++◌, length, All, Option, Some, None, option_to_list}
 use Rattle.p25_calls.specs.{CallLaws.{LieFrom}, Calls.{calls_of}, Seen.{unit_of}, declared.call.Call.{Call}}
 use Rattle.p25_units.specs.{Items.{place_of}, declared.item.Item.{Item}}
@@ -11,7 +11,7 @@ use Rattle.p25_c.specs.declared.fields.FieldParts.{FieldParts}
 abbrev pub fields_with : Item → FieldParts → FieldParts
 fields_with item others = unit_left (item_unit item) others
 
--- the numbers of an item, and its fields, tell the unit that a call sees
+-- the numbers of an item, and its fields, are those of the unit that a call sees
 abbrev pub UnitsAreTold : Type 0
 UnitsAreTold = (item : Item) (others : FieldParts) → unit_told (parts_of item) (fields_with item others) ≡ unit_of item
 
@@ -19,19 +19,19 @@ UnitsAreTold = (item : Item) (others : FieldParts) → unit_told (parts_of item)
 abbrev pub FieldsComeBack : Type 0
 FieldsComeBack = (nac : ℕ) (voice : VoiceUnit) → voice_held (voice_fields nac voice) ≡ Some voice
 
--- the call that is answered, where one is
+-- the call that is returned, if one is
 abbrev pub told : Option (Option Call) → List Call
 told None = []
 told (Some call) = option_to_list call
 
--- what a caller answers to items, one after the other, and at the end
+-- the calls that a caller returns of items, one after the other, and at the end
 unfoldable pub told_by : CallerState → List Item → FieldParts → List Call
 told_by state [] others = told (last_asked state)
 told_by state (item ∷ items) others =
     told (call_asked state (parts_of item) (fields_with item others)) ++ told_by (caller_left state (parts_of item) (fields_with item others)) items others
 
--- what a caller that has begun at a place answers to items that lie end to end from there on are their calls, whether a run ends with the
--- gap that decides it or not: to fewer than 2^32 items, which begin below 2^60
+-- a caller that has begun at a position returns of items that lie end to end from there on their calls, whether a run ends with the gap that
+-- decides it or not: of fewer than 2^32 items, which begin below 2^60
 abbrev pub CallsAreTold : Type 0
 CallsAreTold =
     (gap place : ℕ) (items : List Item) (others : FieldParts) → LieFrom place items → length items < 2 ^ 32

@@ -1,4 +1,4 @@
--- Answers of yes and no as octets.
+-- Yes and no as octets.
 use Rattle.std.specs.Prelude.{ℕ, ◌==◌, Bool, not, if◌then◌else◌}
 
 -- 1 for yes and 0 for no

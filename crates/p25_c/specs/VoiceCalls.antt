@@ -1,4 +1,4 @@
--- Calls told as numbers and octets, and what a caller keeps between items.
+-- Calls as numbers and octets, and what a caller keeps between items.
 use Rattle.std.specs.Option.{option_or}
 use Rattle.std.specs.Prelude.{ℕ, ℤ, pos, negsuc, ◌+◌, ◌-◌, ◌^◌, ◌==◌, ◌&&◌, ◌||◌, nat_le, nat_lt, Bool, true, false, if◌then◌else◌, List, replicate, Option, Some, None}
 use Rattle.p25_calls.specs.{Seen.{broken_unit}, Taking.{linked_pending, unit_answer, unit_pending}, declared.call.Call.{Call}, declared.call.CallEnd.{CallEnd}}
@@ -18,7 +18,7 @@ end_number Open = 0
 abbrev pub end_held : ℕ → CallEnd
 end_held number = if number == 1 then Tdu else if number == 2 then Tdulc else Open
 
--- link control (LC) where there is one: whether it is there, and its octets
+-- link control (LC) if there is any: whether it is there, and its octets
 abbrev pub has_link : Option LinkControl → ℕ
 has_link None = 0
 has_link (Some link) = 1
@@ -30,7 +30,7 @@ link_octets (Some link) = link.0
 abbrev pub link_held : ℕ → List ℕ → Option LinkControl
 link_held there octets = if is_set there then Some (record { 0 = octets }) else None
 
--- a number where there is one
+-- a number if there is one
 abbrev pub has_number : Option ℕ → ℕ
 has_number None = 0
 has_number (Some number) = 1
@@ -90,7 +90,7 @@ no_call = record {
 
 -- ---- what a caller keeps
 
--- a caller by whether a run ends with the gap after which no unit can join it, where the last item that was taken ended, how many were
+-- a caller by whether a run ends with the gap after which no unit can join it, the end of the last item that was taken, how many were
 -- taken, and the run that a further unit may still join
 abbrev pub state_told : ℕ → ℕ → ℕ → Option Call → CallerState
 state_told gap reached taken None = record { reached = reached; taken = taken; is_open = 0; by_gap = gap; run = no_call }
@@ -100,14 +100,14 @@ state_told gap reached taken (Some call) = record { reached = reached; taken = t
 abbrev pub pending_held : CallerState → Option Call
 pending_held state = if is_set state.is_open then Some (call_held state.run) else None
 
--- the run that is open ends where the last item did at the latest, and has no more units than items were taken
+-- the run that is open ends at the end of the last item at the latest, and has no more units than items were taken
 abbrev pub is_kept : CallerState → Bool
 is_kept state =
     if is_set state.is_open
     then nat_le (state.run.place + state.run.bits) state.reached && nat_le state.run.links state.taken && nat_le state.run.broken state.taken
     else true
 
--- an item may be taken: it begins where the last one ended, below 2^60, and fewer than 2^32 - 1 were taken
+-- an item may be taken: it begins at the end of the last one, below 2^60, and fewer than 2^32 - 1 were taken
 abbrev pub may_take : CallerState → ItemParts → Bool
 may_take state item = is_kept state && item.place == state.reached && nat_lt item.place (2 ^ 60) && nat_lt state.taken (2 ^ 32 - 1)
 
@@ -128,9 +128,9 @@ unit_told item fields =
     if item.kind == 1 then Some (whole_told item fields)
     else if item.kind == 2 then Some (broken_unit item.place item.bits item.nac item.duid) else None
 
--- ---- what is answered
+-- ---- what a caller returns
 
--- no unit can join the run that is open any more, where the recording was read up to a bit: that lies more than 3,456 bits after its end
+-- no unit can join the run that is open any more, once the recording was read up to a bit: that is more than 3,456 bits after its end
 abbrev pub is_over : Option Call → ℕ → Bool
 is_over None reached = false
 is_over (Some call) reached = nat_lt (call.place + call.bits + 3456) reached
@@ -147,7 +147,7 @@ item_pending state item fields = unit_pending (pending_held state) (unit_told it
 abbrev pub ends_with : CallerState → ItemParts → FieldParts → Bool
 ends_with state item fields = ends_so state.by_gap (item_pending state item fields) (item.place + item.bits)
 
--- what a caller answers to an item: the call that it ends, where it ends one; None where it may not be taken
+-- the call that a caller returns of an item: the one that it ends, if it ends one; None if it may not be taken
 abbrev pub item_answer_of : CallerState → ItemParts → FieldParts → Option Call
 item_answer_of state item fields =
     option_or (unit_answer (pending_held state) (unit_told item fields))
@@ -156,34 +156,34 @@ item_answer_of state item fields =
 abbrev pub call_asked : CallerState → ItemParts → FieldParts → Option (Option Call)
 call_asked state item fields = if may_take state item then Some (item_answer_of state item fields) else None
 
--- what a caller answers at the end
+-- the call that a caller returns at the end
 abbrev pub last_asked : CallerState → Option (Option Call)
 last_asked state = if is_kept state then Some (linked_pending (pending_held state)) else None
 
--- the number that is answered: 1 where a call ends, 0 where none does, and -1 where the item may not be taken
+-- the number that is returned: 1 if a call ends, 0 if none does, and -1 if the item may not be taken
 abbrev pub call_answer : Option (Option Call) → ℤ
 call_answer None = negsuc 0
 call_answer (Some None) = pos 0
 call_answer (Some (Some call)) = pos 1
 
--- the call that is left: the one that ends, where one does
+-- the call that is stored then: the one that ends, if one does
 abbrev pub call_left : Option (Option Call) → CallParts → CallParts
 call_left None before = before
 call_left (Some None) before = before
 call_left (Some (Some call)) before = call_told call
 
--- the caller that is left: behind the item, where it may be taken
+-- the caller after the call: after the item, if it may be taken
 abbrev pub caller_left : CallerState → ItemParts → FieldParts → CallerState
 caller_left state item fields =
     if may_take state item
     then state_told state.by_gap (item.place + item.bits) (state.taken + 1) (if ends_with state item fields then None else item_pending state item fields)
     else state
 
--- and at the end one that no item was taken by
+-- and at the end one that has taken no item
 abbrev pub finished_left : CallerState → CallerState
 finished_left state = if is_kept state then state_told state.by_gap 0 0 None else state
 
--- and where the run that is open is ended, one that goes on at the same place
+-- and if the run that is open is ended, one that goes on at the same bit
 abbrev pub closed_left : CallerState → CallerState
 closed_left state = if is_kept state then state_told state.by_gap state.reached state.taken None else state
 

@@ -50,7 +50,7 @@ pub(crate) const LINE_VALUE: i32 = -15;
 /// header: the CRC of the packet header does not agree
 pub(crate) const PACKET_HEADER: i32 = -21;
 
-/// cut: the packet header asks for more bits than there are
+/// cut: by its header the packet has more bits than there are
 pub(crate) const PACKET_CUT: i32 = -22;
 
 /// format: the format of the packet is none of the three

@@ -63,7 +63,7 @@ pub(crate) fn write_whole(unit: Unit, status: Status, octets: &mut [u8]) -> i32
     write_bits(&bits, octets)
 }
 
-// Writes the octets that bits fill where there is room for them, and answers how many.
+// Writes the octets that bits fill if the buffer has capacity for them, and returns how many.
 pub(crate) fn write_bits(bits: &BitBuf, room: &mut [u8]) -> i32
     ensures { IsWriting (Ok (whole_octets bits.now)) room.old room.new result }
 {
@@ -101,7 +101,7 @@ pub extern "C" fn p25_bridge(octets: &[u8], nac: u16, status: u8, into: &mut [u8
     p25_bridge_at(octets, 0, 0, nac, status, into)
 }
 
-// The status symbol of a number, where the network access code (NAC) beside it has 12 bits; else the answer that says which is too large.
+// The status symbol of a number, if the network access code (NAC) beside it has 12 bits; else the number below 0 of the one that is too large.
 pub(crate) fn sent_symbol(nac: u16, status: u8) -> Result<Status, i32>
     ensures symbol { IfOk result (λ symbol. (nac < 4096) × (status_number symbol ≡ status)) }
     ensures answer { IfErr result (IsRefused nac status) }

@@ -32,13 +32,13 @@ const NO_CALL: i32 = 0;
 // The most bits between two data units of a call.
 const SILENCE_MOST: u64 = 3_456;
 
-// The most items that a caller takes, and the least place at which it takes none.
+// The most items that a caller takes, and the least position at which it takes none.
 const TAKEN_MOST: u32 = u32::MAX;
 
 const PLACE_END: u64 = 1 << 60;
 
 /// A call, as `p25 calls` prints it: a longest run of voice units without a break inside, with voice in it (LDU1 or LDU2). There
-/// is a break before a header, after a terminator, where the network access code (NAC) changes, at a packet, and before a voice
+/// is a break before a header, after a terminator, at a change of the network access code (NAC), at a packet, and before a voice
 /// unit that begins more than 3,456 bits after the end of the one before it.
 #[derive(Clone, Copy)]
 #[repr(C)]
@@ -104,16 +104,16 @@ pub extern "C" fn p25_caller_begin_at(caller: &mut CallerState, place: u64, by_g
     *caller = state_told(u8::from(by_gap), place, 0, &None);
 }
 
-/// Takes an item. It takes each item of a recording in order, gaps too: the first at bit 0, each other where the one before it
-/// ends. The fields are those of a whole data unit, as `p25_unit_fields` sets them; of any other item the call does not look at
-/// them.
+/// Takes an item. It takes each item of a recording in order, gaps too: the first at bit 0, each other at the end of the one
+/// before it. The fields are those of a whole data unit, as `p25_unit_fields` sets them; of any other item the call does not look
+/// at them.
 ///
 /// Returns `P25_CALL` if a call ends, and sets `call` to it: with this item, its terminator, or with the data unit before, if
 /// there is a break after that one. So a call comes with the item that decides that it has ended. Returns `P25_NO_CALL` if none
 /// ends, and then `call` stays.
 ///
-/// Returns `P25_OUTSIDE` if the item may not be taken, and then `caller` and `call` stay: it does not begin where the one before
-/// it ended; it begins at bit 2^60 or after it; 2^32 - 1 items were taken; or the open run of `caller` ends after its member
+/// Returns `P25_OUTSIDE` if the item may not be taken, and then `caller` and `call` stay: it does not begin at the end of the one
+/// before it; it begins at bit 2^60 or after it; 2^32 - 1 items were taken; or the open run of `caller` ends after its member
 /// reached, or has more LDU1, LDU2 or broken data units than items were taken. The last does not happen to one that these calls
 /// set. Since 1.1.
 #[unsafe(no_mangle)]
@@ -143,7 +143,7 @@ pub extern "C" fn p25_caller_take(
     tell_call(&ended.or(last), call)
 }
 
-// Ends the run that is open where it is over and the caller ends calls so, and answers the call that it is.
+// Ends the run that is open if it is over and the caller ends calls so, and returns the call that it is.
 fn settle(by_gap: u8, pending: &mut Option<Call>, reached: u64) -> Option<Call>
     ensures call { result ≡ (if ends_so by_gap pending.old reached then linked_pending pending.old else None) }
     ensures left { pending.new ≡ (if ends_so by_gap pending.old reached then None else pending.old) }
@@ -163,7 +163,7 @@ fn ends_so(by_gap: u8, pending: &Option<Call>, reached: u64) -> bool
     by_gap != 0 && is_over(pending, reached)
 }
 
-// Whether no unit can join the run that is open any more, where the recording was read up to a bit.
+// Whether no unit can join the run that is open any more, once the recording was read up to a bit.
 fn is_over(pending: &Option<Call>, reached: u64) -> bool
     ensures { result ≡ is_over pending.now reached }
 {
@@ -205,7 +205,7 @@ pub extern "C" fn p25_caller_finish(caller: &mut CallerState, call: &mut CallPar
 }
 
 /// Ends the run that is open, and goes on: returns `P25_CALL` and sets `call` to the call that is open, or returns `P25_NO_CALL` if
-/// none is. The next item begins where the last one ended, and begins a new run. A program does so if a recording pauses. Returns
+/// none is. The next item begins at the end of the last one, and begins a new run. A program does so if a recording pauses. Returns
 /// `P25_OUTSIDE` if `p25_caller_take` refuses the numbers of `caller`, and then it stays. If no call is returned, `call` stays.
 /// Since 1.1.
 #[unsafe(no_mangle)]
@@ -222,8 +222,8 @@ pub extern "C" fn p25_caller_close(caller: &mut CallerState, call: &mut CallPart
     tell_call(&ended, call)
 }
 
-/// Returns whether an item is a data unit of a call or of the open run of a caller: a whole or a broken data unit that begins at its
-/// member place or after it and before place + bits. Since 1.1.
+/// Returns whether an item is a data unit of a call or of the open run of a caller: a whole or a broken data unit whose first bit is
+/// at `place` of the call or after it, and before `place + bits` of the call. Since 1.1.
 #[unsafe(no_mangle)]
 pub extern "C" fn p25_call_has(call: &CallParts, item: &ItemParts) -> bool
     ensures { result ≡ has_unit call.now item.now }
@@ -233,7 +233,7 @@ pub extern "C" fn p25_call_has(call: &CallParts, item: &ItemParts) -> bool
         && item.place - call.place < call.bits
 }
 
-// Tells a call, where there is one, and answers whether there is.
+// Sets `call` to a call if there is one, and returns whether there is.
 fn tell_call(ended: &Option<Call>, call: &mut CallParts) -> i32
     ensures answer { result ≡ call_answer (Some ended.now) }
     ensures call { call.new ≡ call_left (Some ended.now) call.old }

@@ -6,7 +6,7 @@ ghost use Rattle.p25_c.specs.Streams.{HasTaken, is_stream};
 
 use crate::stream::{STREAM_OCTETS, Stream};
 
-// Appends dibits, as many as there is room for, and answers how many.
+// Appends dibits, as many as there is capacity for, and returns how many.
 pub(crate) fn append_dibits(stream: &mut Stream, dibits: &[u8]) -> i32
     requires { is_stream stream.old ≡ true }
     ensures answer { result ≡ pos (min (length dibits.now) (4 * (8168 - stream.old.held))) }

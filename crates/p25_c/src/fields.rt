@@ -62,7 +62,7 @@ pub struct FieldParts {
 }
 
 /// Sets `fields` to those of the whole data unit that begins at bit `from` of a recording, whose octets are given as for
-/// `p25_next_item`, and returns `P25_FIELDS`. For an item that was returned, `from` is its place. Returns `P25_OUTSIDE` as
+/// `p25_next_item`, and returns `P25_FIELDS`. For an item that was returned, `from` is its first bit. Returns `P25_OUTSIDE` as
 /// `p25_next_item` does, or `P25_NO_UNIT` if no whole data unit begins there; then `fields` stays. Since 1.1.
 #[unsafe(no_mangle)]
 pub extern "C" fn p25_unit_fields(
@@ -84,7 +84,7 @@ pub extern "C" fn p25_unit_fields(
     tell_fields(&found, fields)
 }
 
-// Tells the fields of an item, where it is a whole unit, and answers whether it is.
+// Sets `fields` to those of an item if it is a whole unit, and returns whether it is.
 fn tell_fields(found: &Item, fields: &mut FieldParts) -> i32
     ensures answer { result ≡ unit_answer (item_unit found.now) }
     ensures fields { fields.new ≡ unit_left (item_unit found.now) fields.old }

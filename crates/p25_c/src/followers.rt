@@ -83,8 +83,8 @@ pub extern "C" fn p25_follower_begin_at(follower: &mut FollowerState, place: u64
 /// were found.
 ///
 /// Returns how many octets it wrote, at most `P25_FOLLOW_ROOM`; the octets of the buffer after them stay. Else it writes nothing,
-/// `follower` stays, and it returns the first of these that applies: `P25_OUTSIDE`, if the item does not begin where the one
-/// before it ended, a bit of it is not among the octets, or the numbers of the item or of `follower` are refused; `P25_NO_ROOM`.
+/// `follower` stays, and it returns the first of these that applies: `P25_OUTSIDE`, if the item does not begin at the end
+/// of the one before it, a bit of it is not among the octets, or the numbers of the item or of `follower` are refused; `P25_NO_ROOM`.
 ///
 /// An item is refused whose kind is none of the five; a whole or a broken data unit whose NAC is above 4095, whose DUID is above
 /// 15, or whose bits are fewer than 144 or no multiple of 72; and a nounit or a gap of more than 4,096 bits. A follower is
@@ -190,7 +190,7 @@ fn is_item_told(item: &ItemParts) -> bool
     }
 }
 
-// The item that numbers tell, as far as a follower looks at it.
+// The item of numbers, as far as a follower looks at it.
 fn item_held(item: &ItemParts) -> Item
     requires told { is_item_told item.now ≡ true }
     requires few { item.now.bits ≤ 25920 }
@@ -246,7 +246,7 @@ fn name_held(follower: &FollowerState) -> Option<Nid>
     })
 }
 
-// A follower as numbers, where the next item begins at a bit.
+// A follower as numbers whose next item begins at a bit.
 fn follower_told(reached: u64, followed: &Followed) -> FollowerState
     ensures { result ≡ follower_told reached followed.now }
 {
@@ -257,7 +257,7 @@ fn follower_told(reached: u64, followed: &Followed) -> FollowerState
         Some(name) => (1, name.nac, name.duid),
         None => (0, 0, 0),
     };
-    // The bits of the stretch as octets, with zeros after them. There is always room for them.
+    // The bits of the stretch as octets, with zeros after them. They always fit.
     let mut octets = [0; 864];
     let mut bits = BitBuf::new();
     bits.append(stretch, 0, stretch.len());
@@ -275,7 +275,7 @@ fn follower_told(reached: u64, followed: &Followed) -> FollowerState
     }
 }
 
-// Writes octets where there is room for them, and answers how many.
+// Writes octets if the buffer has capacity for them, and returns how many.
 fn write_octets(octets: &[u8], room: &mut [u8]) -> i32
     requires { length octets.now ≤ 8192 }
     ensures { IsWriting (Ok octets.now) room.old room.new result }

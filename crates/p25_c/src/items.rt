@@ -67,7 +67,7 @@ const TEXT_ROOM: usize = 8_192;
 /// The octets, from the one that contains the bit at which an item is asked for, that always decide it.
 pub(crate) const NEEDED: usize = 3_241;
 
-// The largest place at which an item is asked for.
+// The largest position at which a call looks for an item.
 const PLACE_MOST: u64 = 1 << 59;
 
 /// An item of a recording: a data unit, or what lies between data units.
@@ -76,7 +76,7 @@ const PLACE_MOST: u64 = 1 << 59;
 pub struct ItemParts {
     /// the bit at which it begins
     pub place: u64,
-    /// how many bits it covers, at least 1: the next item begins at place + bits
+    /// how many bits it covers, at least 1: the next item begins at `place + bits`
     pub bits: u32,
     /// of a whole data unit how many bit errors were corrected, else 0
     pub fixes: u32,
@@ -92,7 +92,7 @@ pub struct ItemParts {
 
 /// Sets `item` to the item that begins at bit `from` of a recording, and returns `P25_ITEM`. The octets are a part of the
 /// recording whose first octet is at bit `begin`, a multiple of 8; `ended` states that no octets follow. The first call has
-/// `begin` and `from` 0, and each later one has `from` = item.place + item.bits. Octets that end at or before that bit may be
+/// `begin` and `from` 0, and each later one has `from` = `item.place + item.bits`. Octets that end at or before that bit may be
 /// dropped.
 ///
 /// If the buffer has more octets than the text, `text` becomes the line of `p25 show` with a zero in place of the end of the
@@ -127,8 +127,8 @@ pub extern "C" fn p25_next_item(
     ITEM
 }
 
-// An item to be written over. It is a voice unit and not `Item::empty()`: where another follows, only what a voice unit has is written, and
-// no room is cleared for it.
+// An item to be written over. It is a voice unit and not `Item::empty()`: only what a voice unit has is written when another item takes its
+// position, and no memory of a packet is cleared.
 #[inline(always)]
 pub(crate) fn blank() -> Item {
     let unit = Unit::new(0, Body::Voice(VoiceUnit::End));
@@ -140,7 +140,7 @@ pub(crate) fn blank() -> Item {
     }
 }
 
-// Whether an item may be asked for at a place, where so many octets of the recording stand from bit `begin` on.
+// Whether a call may look for an item at a position, given that so many octets of the recording begin at bit `begin`.
 pub(crate) fn is_inside(begin: u64, from: u64, count: usize) -> bool
     ensures { result ≡ is_inside begin from count }
 {
@@ -150,7 +150,7 @@ pub(crate) fn is_inside(begin: u64, from: u64, count: usize) -> bool
     (from - begin).div_ceil(8) <= count as u64
 }
 
-// Sets `found` to the item that begins at a place that may be asked for, if there is one.
+// Sets `found` to the item that begins at a position at which a call may look for one, if there is one.
 pub(crate) fn find_at(octets: &[u8], begin: u64, from: u64, ended: bool, found: &mut Item) -> bool
     requires { is_inside begin from (length octets.now) ≡ true }
     ensures first { result ≡ true → (items : List item_type) × (items_asked ended begin from octets.now ≡ Some (found.new ∷ items)) }
@@ -160,7 +160,7 @@ pub(crate) fn find_at(octets: &[u8], begin: u64, from: u64, ended: bool, found: 
     find_item(octets, (from - begin) as usize, from, ended, found)
 }
 
-// Tells an item: its numbers, and its text and a zero after it, where there is room for both.
+// Sets `item` to the numbers of an item, and `text` to its text and a zero if the buffer has capacity for both.
 pub(crate) fn tell_item(found: &Item, item: &mut ItemParts, text: &mut [u8])
     requires { IsSoundItem found.now }
     ensures item { item.new ≡ parts_of found.now }
@@ -177,7 +177,7 @@ pub(crate) fn tell_item(found: &Item, item: &mut ItemParts, text: &mut [u8])
     }
 }
 
-// The numbers of an item, where so many octets are those of its text.
+// The numbers of an item whose text has so many octets.
 pub(crate) fn item_parts(found: &Item, text_length: u32) -> ItemParts
     ensures { result ≡ record (parts_of found.now) { text_length = text_length } }
 {

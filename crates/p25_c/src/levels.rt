@@ -34,13 +34,13 @@ pub extern "C" fn p25_dibit_level(dibit: u8) -> i8
     nominal(dibit % 4)
 }
 
-/// Writes the octets of soft symbols, four in each; if they fill no octet, its last bits are 0. If the levels are those of one
-/// whole or broken data unit, no more and no fewer, the blocks that fail of a packet (PDU) are decoded from the levels, as `p25
-/// soft` decodes them. Give it the levels of a broken data unit that begins at an even bit. The CRCs of these blocks are not
-/// looked at: `p25_packet_read` of the output does that.
+/// Writes the octets of soft symbols, four in each; if they fill no octet, its last bits are 0. If the soft symbols are those of
+/// one whole or broken data unit, no more and no fewer, the blocks of a packet (PDU) that fail are decoded from them, as `p25 soft`
+/// decodes them. Give it the soft symbols of a broken data unit that begins at an even bit. The call does not look at the CRCs of
+/// these blocks: `p25_packet_read` of the output does that.
 ///
 /// Returns how many octets it wrote, at most `P25_UNIT_ROOM`; the octets of the buffer after them stay. Else it writes nothing
-/// and returns the first of these that applies: `P25_OUTSIDE`, if there are more than `P25_LEVELS_MOST` levels; `P25_NO_ROOM`.
+/// and returns the first of these that applies: `P25_OUTSIDE`, if there are more than `P25_LEVELS_MOST` of them; `P25_NO_ROOM`.
 /// Since 1.1.
 #[unsafe(no_mangle)]
 pub extern "C" fn p25_soften(levels: &[i8], into: &mut [u8]) -> i32
@@ -55,7 +55,7 @@ pub extern "C" fn p25_soften(levels: &[i8], into: &mut [u8]) -> i32
     write_bits(&bits, into)
 }
 
-// Replaces the blocks that fail of a packet (PDU), where the bits are those of one.
+// Replaces the blocks of a packet (PDU) that fail, if the bits are those of one.
 fn soften_unit(levels: &[i8], bits: &mut BitBuf)
     requires { bits.old ≡ hard_bits levels.now }
     ensures bits { bits.new ≡ softened_by (need_of bits.old) levels.now bits.old }

@@ -10,7 +10,7 @@
 //! - Each pointer is aligned and leads to as many objects as is said beside it, at most PTRDIFF_MAX octets. All of them contain values,
 //!   also those that a call only writes: set a buffer before you give it, as by = {0}. They may be read, and written if the pointer is no
 //!   pointer to const.
-//! - No pointer is NULL, but one whose length, n or room, is 0. A test looks at it that such a pointer is not followed; it is not proved.
+//! - No pointer is NULL, but one whose length, `n` or `room`, is 0. A test looks at it that such a pointer is not followed; it is not proved.
 //! - What a call writes overlaps nothing else that the same call is given.
 //! - A bool is true or false: as an octet, 1 or 0.
 //! - While a call runs no thread writes what it reads, and none reads or writes what it writes.

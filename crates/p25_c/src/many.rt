@@ -11,12 +11,12 @@ use crate::room::counted;
 use p25_bits::BitBuf;
 use p25_stream::find_item_in;
 
-// The most items that one call tells.
+// The most items that one call returns.
 const ITEMS_MOST: usize = 2_147_483_647;
 
 /// Sets `items` to the items from bit `from` of a recording on, in order: as many as there are, at most as many as the buffer
 /// holds, and at most 2,147,483,647. The arguments and the items are as for `p25_next_item`. No text is made, and text_length is
-/// 0. Returns how many items it set; the others stay. The next call begins where the last item ends. Returns `P25_OUTSIDE` as
+/// 0. Returns how many items it set; the others stay. The next call begins at the end of the last item. Returns `P25_OUTSIDE` as
 /// `p25_next_item` does, and then all of `items` stays. Since 1.1.
 #[unsafe(no_mangle)]
 pub extern "C" fn p25_items(
@@ -35,7 +35,7 @@ pub extern "C" fn p25_items(
     tell_items(octets, begin, from, ended, items)
 }
 
-// Tells the items from a place on that may be asked for, as many as there are and there is room for, and answers how many.
+// Sets `items` to the items from a position on, as many as there are and the buffer holds, and returns how many.
 fn tell_items(octets: &[u8], begin: u64, from: u64, ended: bool, items: &mut [ItemParts]) -> i32
     requires inside { is_inside begin from (length octets.now) ≡ true }
     ensures answer { result ≡ many_answer (Some (items_by ended from (drop (from - begin) (octet_bits octets.now)))) (length items.old) }

@@ -66,7 +66,7 @@ fn confirmed_held(head: PacketHead, packet: &PacketParts) -> Option<Packet>
     Some(Packet::Confirmed(Confirmed::new(head, slots)))
 }
 
-// Whether the block at a place can be sent: it is good, and its serial number has seven bits.
+// Whether the block at an index can be sent: it is good, and its serial number has seven bits.
 fn is_sendable_at(packet: &PacketParts, j: usize) -> bool
     requires { j < 127 }
     ensures value { result ≡ is_sendable_at packet.now j }
@@ -75,7 +75,7 @@ fn is_sendable_at(packet: &PacketParts, j: usize) -> bool
     packet.good[j] != 0 && packet.serials[j] < 128
 }
 
-// The block at a place of numbers and octets.
+// The block at an index of numbers and octets.
 fn slot_held(packet: &PacketParts, j: usize) -> Slot
     requires there { j < 127 }
     requires serial { slice_index packet.now.serials j < 128 }

@@ -123,7 +123,7 @@ fn packet_fault(field: Field) -> i32
     }
 }
 
-// Tells a packet.
+// Sets `packet` to the numbers and octets of a packet.
 fn tell_packet(nac: u16, read: &Packet, packet: &mut PacketParts)
     ensures told { packet.new ≡ packet_told nac read.now }
     ensures bad { packet.new.bad ≡ packet_bad read.now }
@@ -139,7 +139,7 @@ fn tell_packet(nac: u16, read: &Packet, packet: &mut PacketParts)
     }
 }
 
-// Tells the slots of a confirmed packet.
+// Stores the slots of a confirmed packet.
 fn tell_slots(slots: &[Slot], packet: &mut PacketParts)
     requires { length slots.now ≤ 127 }
     ensures { packet.new ≡ slots_told slots.now packet.old }
@@ -157,7 +157,7 @@ fn tell_slots(slots: &[Slot], packet: &mut PacketParts)
     packet.octets = octets;
 }
 
-// The header of a packet, with nothing behind it.
+// The header of a packet, with nothing after it.
 fn head_told(nac: u16, head: &PacketHead) -> PacketParts
     ensures { result ≡ head_told nac head.now }
 {
@@ -203,7 +203,7 @@ fn no_packet(nac: u16, head: [u8; 10]) -> PacketParts
 }
 
 // Sets `good` to 1 for each slot that is good and to 0 for each other, `serials` to the serial numbers of the slots, and `octets` to their
-// octets, sixteen each, and answers how many slots are not good.
+// octets, sixteen each, and returns how many slots are not good.
 fn put_slots(slots: &[Slot], good: &mut [u8], serials: &mut [u8], octets: &mut [u8]) -> u8
     requires few { length slots.now ≤ 127 }
     requires good { length slots.now ≡ length good.old }

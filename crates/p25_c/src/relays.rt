@@ -40,7 +40,7 @@ pub extern "C" fn p25_relay_at(
     }
 }
 
-// Writes what is forwarded in place of the item at a place.
+// Writes what is forwarded in place of the item at a position.
 fn relay_at(octets: &[u8], begin: u64, from: u64, nac: u16, status: Status, into: &mut [u8]) -> i32
     requires { nac < 4096 }
     ensures { IsWriting (relayed_at nac status begin from octets.now) into.old into.new result }

@@ -18,7 +18,7 @@ const ITEM_BITS: u32 = 25_920;
 
 /// Writes the bits of an item as octets, whatever bit it begins at: its first bit is the most significant one of the first octet,
 /// and the bits after its last one are 0. The octets are a part of the recording whose first octet is at bit `begin`, as for
-/// `p25_next_item`. The call looks at the members place and bits of the item. Returns how many octets it wrote, at most
+/// `p25_next_item`. The call looks at the members `place` and `bits` of the item. Returns how many octets it wrote, at most
 /// `P25_UNIT_ROOM`; the octets of the buffer after them stay.
 ///
 /// Else it writes nothing and returns the first of these that applies: `P25_OUTSIDE`, if `begin` is no multiple of 8, a bit of
@@ -41,7 +41,7 @@ pub extern "C" fn p25_item_octets(
     write_bits(&bits, into)
 }
 
-// Whether so many bits from a place on are among those of the octets, and an item may cover so many.
+// Whether so many bits from a position on are among those of the octets, and an item may cover so many.
 pub(crate) fn has_item(octets: &[u8], begin: u64, place: u64, bits: u32) -> bool
     ensures { result ≡ has_item begin place bits (length octets.now) }
 {
@@ -68,7 +68,7 @@ pub(crate) fn cut(octets: &[u8], at: u64, count: u32, bits: &mut BitBuf)
     bits.append(&whole, at % 8, count);
 }
 
-// Appends zeros where bits fill no octet.
+// Appends zeros until the bits fill their last octet.
 pub(crate) fn fill(bits: &mut BitBuf)
     ensures { bits.new ≡ filled bits.old }
 {
@@ -115,7 +115,7 @@ pub extern "C" fn p25_bridge_at(
     }
 }
 
-// Writes the whole unit at a place under another network access code (NAC) and with one status symbol everywhere.
+// Writes the whole unit at a position under another network access code (NAC) and with one status symbol everywhere.
 fn bridge_at(octets: &[u8], begin: u64, from: u64, nac: u16, status: Status, into: &mut [u8]) -> i32
     requires { nac < 4096 }
     ensures { IsWriting (bridged_at nac status begin from octets.now) into.old into.new result }

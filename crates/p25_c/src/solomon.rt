@@ -39,7 +39,7 @@ pub extern "C" fn p25_rs_24_16_read(symbols: &mut [u8; 24]) -> i32
     read_symbols::<24, 16>(symbols)
 }
 
-/// Decodes a received word of the code (36,20), whose symbols are erased where `erased` is true. A codeword is correctable if
+/// Decodes a received word of the code (36,20) with erasures: the symbols whose entry of `erased` is true. It is correctable if
 /// twice the symbol errors among the others, and the erasures, are at most 16 together. Returns how many symbols changed; the
 /// octets become those of that codeword. Returns `P25_BEYOND` if there is none, and `P25_NO_LETTERS` if an octet is above 63, an
 /// erased one too; then the octets stay.
@@ -50,7 +50,7 @@ pub extern "C" fn p25_rs_36_20_read_erased(symbols: &mut [u8; 36], erased: &[boo
     read_with_erased::<36, 20>(symbols, erased)
 }
 
-/// Decodes a received word of the code (24,12), whose symbols are erased where `erased` is true. A codeword is correctable if
+/// Decodes a received word of the code (24,12) with erasures: the symbols whose entry of `erased` is true. It is correctable if
 /// twice the symbol errors among the others, and the erasures, are at most 12 together. Returns how many symbols changed; the
 /// octets become those of that codeword. Returns `P25_BEYOND` if there is none, and `P25_NO_LETTERS` if an octet is above 63, an
 /// erased one too; then the octets stay.
@@ -61,7 +61,7 @@ pub extern "C" fn p25_rs_24_12_read_erased(symbols: &mut [u8; 24], erased: &[boo
     read_with_erased::<24, 12>(symbols, erased)
 }
 
-/// Decodes a received word of the code (24,16), whose symbols are erased where `erased` is true. A codeword is correctable if
+/// Decodes a received word of the code (24,16) with erasures: the symbols whose entry of `erased` is true. It is correctable if
 /// twice the symbol errors among the others, and the erasures, are at most 8 together. Returns how many symbols changed; the
 /// octets become those of that codeword. Returns `P25_BEYOND` if there is none, and `P25_NO_LETTERS` if an octet is above 63, an
 /// erased one too; then the octets stay.

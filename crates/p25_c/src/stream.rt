@@ -161,7 +161,7 @@ pub(crate) fn is_stream(stream: &Stream) -> bool
         && is_inside(stream.begin, stream.from, stream.held as usize)
 }
 
-// Lets octets go that no item needs any more, where there is too little room behind those that are held.
+// Drops octets that no item needs any more, if there is too little capacity after those that are held.
 fn make_room(stream: &mut Stream, wanted: usize)
     requires { is_stream stream.old ≡ true }
     ensures same { HasSameBits stream.old stream.new }
@@ -173,7 +173,7 @@ fn make_room(stream: &mut Stream, wanted: usize)
     }
 }
 
-// Lets the octets go before the one in which the next item begins.
+// Drops the octets before the one in which the next item begins.
 fn let_go(stream: &mut Stream)
     requires { is_stream stream.old ≡ true }
     ensures same { HasSameBits stream.old stream.new }
@@ -188,7 +188,7 @@ fn let_go(stream: &mut Stream)
     stream.held -= past as u32;
 }
 
-// Appends octets behind those that are held, as many as there is room for, and answers how many.
+// Appends octets after those that are held, as many as there is capacity for, and returns how many.
 fn append(stream: &mut Stream, octets: &[u8]) -> i32
     requires { stream.old.held ≤ 8168 }
     ensures { IsAppended octets.now stream.old stream.new result }

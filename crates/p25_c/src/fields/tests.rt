@@ -1,4 +1,4 @@
-//! Fields that are told and units built of them.
+//! Fields of data units, and data units built of them.
 
 use super::*;
 

@@ -1,8 +1,8 @@
-//! The items of a short recording: what is told of each, and when nothing is.
+//! The items of a short recording: the numbers and the text of each, and when there is no item.
 
 use super::*;
 
-// A gap of 24 bits, a TDU with one wrong bit, a TDULC whose link control (LC) fails, and the first ten octets of another TDU.
+// A gap of 24 bits, a TDU with one bit error, a TDULC whose link control (LC) fails, and the first ten octets of another TDU.
 const RECORDING: [u8; 85] = [
     0x00, 0x00, 0x00, 0xD5, 0x75, 0xF5, 0xFF, 0x77, 0xFF, 0x29, 0x33, 0x38, 0x5D, 0xDC, 0xA3, 0x3B,
     0x5B, 0x80, 0x00, 0x00, 0x01, 0x55, 0x75, 0xF5, 0xFF, 0x77, 0xFF, 0x29, 0x3F, 0xE2, 0x11, 0xF3,
@@ -12,7 +12,7 @@ const RECORDING: [u8; 85] = [
     0xFF, 0x29, 0x33, 0x38, 0x5D,
 ];
 
-// What is told of an item: place, bits, fixes, network access code (NAC), data unit identifier (DUID), kind and text.
+// The numbers and the text of an item: position, bits, fixes, network access code (NAC), data unit identifier (DUID), kind and text.
 type Told = (u64, u32, u32, u16, u8, u8, &'static [u8]);
 
 // The items of the recording.
@@ -39,7 +39,7 @@ const ITEMS: [Told; 4] = [
     (600, 80, 0, 0, 0, 5, b"cut at=600 bits=80"),
 ];
 
-// What stands in an item and in a text before a call.
+// The numbers of an item before a call.
 const BEFORE: ItemParts = ItemParts {
     place: 7,
     bits: 7,
@@ -68,17 +68,17 @@ fn is_item(
         && item.kind == kind
 }
 
-// Whether an item stands as it was.
+// Whether an item is as it was.
 fn is_left(item: &ItemParts) -> bool {
     is_item(item, 7, (7, 7, 7), 7, 7, 7)
 }
 
-// Whether room begins with a text and a zero.
+// Whether a buffer begins with a text and a zero.
 fn has_text(room: &[u8], text: &[u8]) -> bool {
     text.len() < room.len() && &room[..text.len()] == text && room[text.len()] == 0
 }
 
-// Whether an item of the recording is told at a place.
+// Whether a call returns an item of the recording at a position.
 fn is_told(told: &Told, from: u64) -> bool {
     let (place, bits, fixes, nac, duid, kind, text) = *told;
     let mut item = BEFORE;
@@ -88,7 +88,7 @@ fn is_told(told: &Told, from: u64) -> bool {
         && has_text(&room, text)
 }
 
-// Whether no item is told at a place of the octets from bit `begin` on, with an answer, and all stays as it is.
+// Whether a call returns a number and no item at a position of the octets from bit `begin` on, and all stays as it is.
 fn is_none(begin: u64, from: u64, answer: i32) -> bool {
     let mut item = BEFORE;
     let mut room = [9; 64];
@@ -107,10 +107,10 @@ fn each_item_in_turn(rt: HostRuntime) {
     assert!(rt; is_none(0, from, 0));
 }
 
-// The octets that are left out before and after, the place, whether the recording ends, the answer, and the kind.
+// The octets that are left out before and after, the position, whether the recording ends, the returned number, and the kind.
 type Piece = (usize, usize, u64, bool, i32, u8);
 
-// Whether a piece of the recording tells an item so.
+// Whether a call returns such an item of a chunk of the recording.
 fn piece_tells(piece: &Piece) -> bool {
     let (before, after, from, ended, answer, kind) = *piece;
     if before > 80 || after > 85 - before {
@@ -140,7 +140,7 @@ fn pieces_that_begin_later(rt: HostRuntime) {
     }
 }
 
-// Whether the text of the gap, of 16 octets, is written into so much room, or is not.
+// Whether the text of the gap, of 16 octets, is written into a buffer of so many octets, or is not.
 fn gap_is_written(count: usize, written: bool) -> bool {
     let mut item = BEFORE;
     let mut room = [9; 64];
@@ -157,7 +157,7 @@ fn gap_is_written(count: usize, written: bool) -> bool {
 
 #[test]
 fn room_for_a_text(rt: HostRuntime) {
-    // It wants 17 octets, one for the zero after it.
+    // It needs 17 octets, one for the zero after it.
     for (count, written) in [(0usize, false), (16, false), (17, true), (64, true)] {
         assert!(rt; gap_is_written(count, written));
     }
@@ -165,7 +165,7 @@ fn room_for_a_text(rt: HostRuntime) {
 
 #[test]
 fn places_outside(rt: HostRuntime) {
-    // Rows: the bit at which the octets begin, and the place that is asked for.
+    // Rows: the bit at which the octets begin, and the position at which the call looks for an item.
     for (begin, from) in [
         (4, 24),
         (32, 24),

@@ -1,4 +1,4 @@
-//! Levels as dibits and as octets.
+//! Soft symbols as dibits and as octets.
 
 use super::*;
 
@@ -17,7 +17,7 @@ fn levels_and_dibits(rt: HostRuntime) {
     ] {
         assert_eq!(rt; p25_level_dibit(level), dibit);
     }
-    // Rows: an octet, and the level that stands for the dibit of its two lowest bits.
+    // Rows: an octet, and the soft symbol of the dibit of its two lowest bits.
     for (dibit, level) in [(0u8, 32i8), (1, 96), (2, -32), (3, -96), (255, -96)] {
         assert_eq!(rt; p25_dibit_level(dibit), level);
     }

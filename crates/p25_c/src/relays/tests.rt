@@ -24,7 +24,7 @@ fn items_forwarded(rt: HostRuntime) {
 
 #[test]
 fn refusals(rt: HostRuntime) {
-    // Rows: the place, the network access code (NAC), the status symbol, the room, and the answer.
+    // Rows: the position, the network access code (NAC), the status symbol, the size of the buffer, and the returned number.
     for (from, nac, status, count, answer) in [
         (0u64, 4_096u16, 4u8, 0usize, -4),
         (0, 4_095, 4, 0, -5),
