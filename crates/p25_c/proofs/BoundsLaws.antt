@@ -1,4 +1,4 @@
--- The numbers by which a caller makes room: by the cases of a first item, and by the blocks of 72 bits that a frame has.
+-- The sizes of buffers: by the cases of a first item, and by the blocks of 72 bits that a frame has.
 use Rattle.std.proofs.Common.{◌≡◌, ℕ, ◌+◌, ◌-◌, ◌*◌, ◌/◌, ◌%◌, ◌<◌, ◌≤◌, inl, inr, Bool, true, false, ◌||◌, cond, min, List, [], ◌∷◌, length, take, drop, replicate, Option, Some, None, Result, Ok, Err, ℤ, pos, nat_le, refl, ap, sym, subst, ◌∙◌, arith, length-append, length-drop, length-take}
 use Rattle.std.proofs.{lemmas.Bool.{cases_Bool, cases_lt, cond-false, cond-true, le-leb, leb-true}, lemmas.List.{length-replicate}}
 use Rattle.std.specs.{Prelude.{IfOk}, Cmp.{first_so}}
@@ -41,7 +41,7 @@ enough-decide ended begin from octets inside enough =
     let goes = either-true ended (is_decided bits) (long-decide bits long) in
     (first, later, items_asked-inside ended begin from octets (first ∷ later) inside (items_by-more ended from bits (omega (arith, long)) goes))
 
--- ---- the room of a stream
+-- ---- the capacity of a stream
 
 pub streams-room : StreamsHaveRoom
 streams-room stream full asked =
@@ -172,9 +172,9 @@ cuts-short begin place count octets =
       | inr no' ↦ subst (λ (r : Result (List ℕ) ℤ). IfOk r (λ some. length some ≤ 3240)) (sym (cond-false test (Ok cut) (Err outside) no')) tt
     ]
 
--- ---- what a call answers that writes a unit
+-- ---- the number that a call returns that writes a unit
 
--- it answers how many octets there are, where it answers a number of them
+-- it is that of the octets, if it is a number of them
 answer-count : (octets room left : List ℕ) (answer : ℤ) (count : ℕ) → IsWriting (Ok octets) room left answer → answer ≡ pos count → count ≡ length octets
 answer-count octets room left answer count writing same =
     let test = nat_le (length octets) (length room) in

@@ -10,9 +10,9 @@ use Rattle.p25_c.specs.Rooms.{IsWriting}
 use Rattle.p25_c.proofs.ItemsLaws.{items_asked-inside}
 use mir.Val.{SFits}
 
--- ---- answers of 32 bits
+-- ---- numbers of 32 bits
 
--- what is answered of another call is told as it is
+-- the number that another call returns is passed on as it is
 pub writing-told : (what : Result (List ℕ) ℤ) (room left : List ℕ) (answer : ℤ) → SFits w32 answer → IsWriting what room left answer
     → IsWriting what room left (to_z w32 (of_z w32 answer))
 writing-told what room left answer fits written = subst (IsWriting what room left) (sym (to_z-of_z w32 answer fits)) written
@@ -32,7 +32,7 @@ under-sent nac status symbol what room left answer fits sent written = record {
       (writing-told (what symbol) room left answer fits written);
 }
 
--- where one of the two is too large
+-- one of the two is too large
 refused-by : (nac status : ℕ) (what : Status → Result (List ℕ) ℤ) (room : List ℕ) (answer : ℤ) → IsRefused nac status answer → IsWritingUnder nac status what room room answer
 refused-by nac status what room answer (inl code) = record {
   strange_code = λ above. record { answer_is = code.1; left_is = refl };
@@ -45,7 +45,7 @@ refused-by nac status what room answer (inr sign) = record {
   sent = λ few symbol number. absurd (omega (arith, sign.1, number, symbol.below));
 }
 
--- the answer is one of 32 bits
+-- the number has 32 bits
 refused-same : (nac status : ℕ) (answer : ℤ) → IsRefused nac status answer → to_z w32 (of_z w32 answer) ≡ answer
 refused-same nac status answer (inl code) = subst (λ (z : ℤ). to_z w32 (of_z w32 z) ≡ z) (sym code.1) refl
 refused-same nac status answer (inr sign) = subst (λ (z : ℤ). to_z w32 (of_z w32 z) ≡ z) (sym sign.2) refl

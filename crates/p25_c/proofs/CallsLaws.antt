@@ -1,4 +1,4 @@
--- What a series of calls tells, by induction on the calls: each item is the first of those of the whole recording from its place on.
+-- The items that a series of calls returns, by induction on the calls: each item is the first of those of the whole recording from its first bit on.
 use Rattle.std.proofs.Common.{◌≡◌, ℕ, ◌+◌, ◌-◌, ◌*◌, ◌<◌, ◌≤◌, pos, Bool, true, List, [], ◌∷◌, ◌++◌, length, map, take, drop, Option, Some, None, refl, ap, ap₂, sym, subst, ◌∙◌, arith, append-nil}
 use Rattle.std.proofs.{lemmas.Bool.{leb-true}, lemmas.List.{drop-append-le, drop-drop, map-append}, lemmas.List.Sums.{sum_by-cons}}
 use Rattle.std.specs.{Cmp.{first_so, second_so}, List.{sum_by}}
@@ -11,13 +11,13 @@ use Rattle.p25_c.specs.{Calls.{AreSet, AreTold, BeginsWith, CallsTellAll, CallsT
 use Rattle.p25_c.specs.declared.items.ItemParts.{ItemParts}
 use Rattle.p25_c.proofs.ItemsLaws.{items_asked-some}
 
--- a place that may be asked for is one of the bits of the octets, or their end
+-- a position at which a call may look for an item is one of the bits of the octets, or their end
 pub inside-bounds : (begin from count : ℕ) → is_inside begin from count ≡ true → (begin ≤ from) × (from ≤ begin + 8 * count)
 inside-bounds begin from count yes' =
     let before = first_so _ _ yes' in
     (leb-true begin from (second_so _ _ (first_so _ _ before)), leb-true from (begin + 8 * count) (second_so _ _ before))
 
--- where bits begin with an item, they and more begin with it, and go on behind it
+-- if bits begin with an item, they and more begin with it, and go on after it
 pub told-first : (ended : Bool) (from : ℕ) (here more : List Bool) (item : Item) (items : List Item) → items_by ended from here ≡ item ∷ items → (ended ≡ true → more ≡ [])
     → (covered item ≤ length here) × (items_by true from (here ++ more) ≡ item ∷ items_by true (from + covered item) (drop (covered item) here ++ more))
 told-first ended from here more item items some goes =
@@ -44,7 +44,7 @@ module _ (recording : List ℕ) (from : ℕ) (piece : Given) (is : IsPiece recor
   abbrev here : List Bool
   here = drop (from - piece.begin) (octet_bits piece.octets)
 
-  -- the bits of a recording from a place on are those of the piece and those after it
+  -- the bits of a recording from a position on are those of the chunk and those after it
   piece-bits : piece.begin ≤ from → from ≤ piece.begin + 8 * length piece.octets → drop from bits ≡ here ++ octet_bits is.after
   piece-bits after within =
       let front = octet_bits is.before in
@@ -58,7 +58,7 @@ module _ (recording : List ℕ) (from : ℕ) (piece : Given) (is : IsPiece recor
       ∙ drop_behind (8 * length is.before) (from - piece.begin) front (octet_bits piece.octets ++ octet_bits is.after) (length-octet_bits is.before)
       ∙ drop-append-le (from - piece.begin) (octet_bits piece.octets) (octet_bits is.after) fits
 
-  -- the item that is told is the first of those of the whole recording
+  -- the item that is returned is the first of those of the whole recording
   by_asked : (asked : Option (List Item)) (item : Item) → items_asked piece.ended piece.begin from piece.octets ≡ asked → BeginsWith asked item
       → items_by true from (drop from bits) ≡ item ∷ items_by true (from + covered item) (drop (from + covered item) bits)
   by_asked None item asked_is begins = absurd begins
@@ -77,7 +77,7 @@ module _ (recording : List ℕ) (from : ℕ) (piece : Given) (is : IsPiece recor
       ∙ ap (λ (zs : List Bool). first ∷ items_by true (from + covered first) zs) later in
       subst (λ (i : Item). items_by true from (drop from bits) ≡ i ∷ items_by true (from + covered i) (drop (from + covered i) bits)) same told
 
-  -- where none is told at the end of the recording, none is left
+  -- if none is returned at the end of the recording, none is left
   none-left : piece.ended ≡ true → items_asked true piece.begin from piece.octets ≡ Some [] → items_by true from (drop from bits) ≡ []
   none-left ended asked_is =
       let asked = items_asked-some true piece.begin from piece.octets [] asked_is in
@@ -86,7 +86,7 @@ module _ (recording : List ℕ) (from : ℕ) (piece : Given) (is : IsPiece recor
       = piece-bits bounds.0 bounds.1 ∙ ap (λ (zs : List ℕ). here ++ octet_bits zs) (is.ends ended) ∙ ap (λ (zs : List Bool). here ++ zs) octet_bits-nil ∙ append-nil here in
       ap (items_by true from) last ∙ asked.1
 
--- what is told, and the items after it
+-- the items that are returned, and the items after them
 told-items : (recording : List ℕ) (from : ℕ) (givens : List Given) (items : List Item) → AreTold recording from givens items
     → items_by true from (drop from (octet_bits recording)) ≡ items ++ items_by true (from + sum_by covered items) (drop (from + sum_by covered items) (octet_bits recording))
 told-items recording from [] [] told =
@@ -114,7 +114,7 @@ calls-all recording pieces items last told is ended asked =
 
 -- ---- numbers that were set
 
--- the item whose numbers a call set: it is what is asked for begins with, at the place
+-- the item whose numbers a call set: it is the first of those that the call finds, and begins at the position
 set-item : (ended : Bool) (begin from : ℕ) (octets : List ℕ) (asked : Option (List Item)) (parts : ItemParts) → items_asked ended begin from octets ≡ asked
     → item_answer asked ≡ pos 1 → ((before : ItemParts) → item_left asked before ≡ parts)
     → (item : Item) × BeginsWith asked item × (parts_of item ≡ parts) × (place_of item ≡ from)
@@ -126,7 +126,7 @@ set-item ended begin from octets (Some (item ∷ items)) parts is answer left =
     let first = items_by-first ended from bits item items told.1 in
     (item, refl, left (parts_of item), ap place_of first.1 ∙ place_of-first_item from bits)
 
--- so the items were told whose numbers were set
+-- so the items were returned whose numbers were set
 set-told : (recording : List ℕ) (from : ℕ) (givens : List Given) (sets : List ItemParts) → AreSet recording from givens sets
     → (items : List Item) × AreTold recording from givens items × (map parts_of items ≡ sets)
 set-told recording from [] [] are = ([], tt, refl)

@@ -1,4 +1,4 @@
--- An item that a follower may take: where it lies.
+-- The position of an item that a follower may take.
 use Rattle.std.proofs.{Common.{◌≡◌, ℕ, ◌+◌, ◌-◌, ◌*◌, ◌^◌, ◌≤◌, Bool, true, List, length, arith}, lemmas.Bool.{leb-true}}
 use Rattle.std.specs.Cmp.{first_so, second_so}
 use Rattle.p25_c.specs.{Followers.{is_item_told, may_follow}, declared.followers.FollowerState.{FollowerState}, declared.items.ItemParts.{ItemParts}}

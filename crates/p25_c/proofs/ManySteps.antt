@@ -1,4 +1,4 @@
--- A list that a loop goes through, and room that it fills by what it finds.
+-- A list that a loop goes through, and a buffer that it fills with what it finds.
 use Rattle.std.proofs.Common.{◌≡◌, ℕ, suc, ◌+◌, ◌<◌, ◌≤◌, List, [], ◌∷◌, ◌++◌, length, take, drop, map, get_or, slice_set, ap, sym, ◌∙◌, arith, append_assoc, add-one, length-append, length-drop}
 use Rattle.std.proofs.{Math.Seq.{drop-cons, set-append_seam}, lemmas.List.{length-map, length-take-le, map-append, take_all, take_more}}
 use Rattle.p25_c.specs.Many.{put_first}
@@ -26,7 +26,7 @@ left-none xs i room is fits few =
     let all : length xs ≡ i = omega (arith, length-drop i xs, ap length is) in
     take_all room xs (omega (arith, all)) ∙ sym (take_all i xs (omega (arith, all)))
 
--- one more element is written behind those before it
+-- one more element is written after those before it
 pub put-more : {X : Type 0} (told before : List X) (i : ℕ) (y : X) → length told ≡ i → i < length before → slice_set (put_first told before) i y ≡ put_first (told ++ y ∷ []) before
 put-more {X} told before i y long inside =
     let n = length told in

@@ -41,7 +41,7 @@ slots-above (suc k) n parts none =
     let same : suc (k + suc n) ≡ suc k + suc n = omega arith in
     subst (λ (m : ℕ). slots_held m parts ≡ None) same (slots-none (k + suc n) parts (slots-above k n parts none))
 
--- where a block before n cannot be sent, none are held
+-- if a block before n cannot be sent, none are held
 pub slots-refused : (n j : ℕ) (parts : PacketParts) → j < n → is_sendable_at parts j ≡ false → slots_held n parts ≡ None
 slots-refused n j parts below cannot =
     let same : (n - suc j) + suc j ≡ n = omega (arith, below) in

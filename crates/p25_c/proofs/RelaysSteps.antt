@@ -1,4 +1,4 @@
--- Items that are asked for: where they lie, and how many bits they cover.
+-- The positions of the items that calls find, and how many bits they cover.
 use Rattle.std.proofs.Common.{◌≡◌, ℕ, ℤ, pos, ◌+◌, ◌-◌, ◌*◌, ◌^◌, ◌≤◌, Bool, true, List, [], length, drop, Option, Some, None, Ok, refl, subst, sym, arith, length-drop}
 use Rattle.std.proofs.lemmas.Bool.{cond-true, le-leb, leb-true}
 use Rattle.std.specs.Cmp.{first_so, second_so}
@@ -13,7 +13,7 @@ use Rattle.p25_stream.specs.{Finding.{IsFirst}, Items.{first_item}}
 use Rattle.p25_status.specs.declared.symbols.Status.{Status}
 use Rattle.p25_c.specs.{Items.{is_inside}, Places.{outside}, Relays.{asked_relayed}, Rooms.{IsWriting, no_room, written}}
 
--- what the numbers of a place say
+-- a position is one of the octets that are given
 pub record IsPlaced (begin from count : ℕ) : Type 0 where
   pub order : begin ≤ from
   pub there : from ≤ begin + 8 * count
@@ -37,7 +37,7 @@ covered-few at bits =
     (λ count yes' is. let there = need_of-there bits count is in omega (arith, covered-unit_item_of at bits count is, there.1))
     (λ field yes' is. omega arith)
 
--- an item that was found at a place of octets
+-- an item that was found at a position of octets
 pub record IsFoundAt (begin from : ℕ) (octets : List ℕ) (item : Item) : Type 0 where
   pub fits : IsFitItem item
   pub few : covered item ≤ 25920
@@ -57,7 +57,7 @@ found-at begin from octets item yes' first =
       near = omega (arith, placed.near);
     }
 
--- nothing is written of what may not be asked for, and no octet where no item is left
+-- nothing is written if a call may not look for an item, and no octet if no item is left
 pub relay-outside : (nac : ℕ) (status : Status) (asked : Option (List Item)) (bits : List Bool) (room : List ℕ) → asked ≡ None
     → IsWriting (asked_relayed nac status asked bits) room room outside
 relay-outside nac status asked bits room none =

@@ -1,4 +1,4 @@
--- Room into which a text is written, with a zero after it, and room that is too little.
+-- A buffer into which a text is written, with a zero after it, and one that is too small.
 use Rattle.std.proofs.Common.{pos, Ok, ◌≡◌, ℕ, suc, ◌<◌, List, [], ◌∷◌, ◌++◌, length, drop, get_or, slice_set, ap, sym, ◌∙◌, arith, append_assoc, length-append}
 use Rattle.std.proofs.{Math.Seq.{drop-cons, set-append_seam}, lemmas.Bool.{cond-false, cond_below, lt-leb}}
 use Rattle.p25_c.specs.Rooms.{IsWriting, no_room, text_left, written}
@@ -15,7 +15,7 @@ text_left-room text room front is inside =
     ∙ ap (λ (k : ℕ). (text ++ 0 ∷ []) ++ drop k room) (sym end)
     ∙ cond_below n (length room) (written (text ++ 0 ∷ []) room) room inside
 
--- octets for which there is too little room
+-- octets for which a buffer is too small
 pub writing-none : (octets room : List ℕ) (count : ℕ) → length octets ≡ count → length room < count → IsWriting (Ok octets) room room no_room
 writing-none octets room count long few =
     let lacks = lt-leb (length octets) (length room) (omega (arith, long)) in

@@ -1,4 +1,4 @@
--- What a series of calls on a stream tells, by induction on the calls: the bits that are left have the items that were not told.
+-- The items that a series of calls on a stream returns, by induction on the calls: the bits that are left have the items that were not returned.
 use Rattle.std.proofs.Common.{◌≡◌, ℕ, ◌+◌, ◌-◌, ◌*◌, ◌<◌, ◌≤◌, inl, inr, Bool, true, false, List, [], ◌∷◌, ◌++◌, length, drop, Option, Some, None, refl, ap, ap₂, sym, ◌∙◌, arith, append_assoc, append-nil}
 use Rattle.std.proofs.{lemmas.Bool.{cases_Bool, cond-false, cond-true}, lemmas.List.{drop-append-le, drop-drop}, lemmas.List.Concat.{flat_map-append}}
 use Rattle.std.specs.List.{flat_map}
@@ -10,7 +10,7 @@ use Rattle.p25_c.specs.{Items.{items_asked}, StreamCalls.{AreCalls, Leads, Strea
 use Rattle.p25_c.specs.{Streams.{bits_left, fresh_stream, has_ended, is_stream, octets_held, stream_asked, stream_moved}, declared.stream.Stream.{Stream}}
 use Rattle.p25_c.proofs.{CallsLaws.{inside-bounds, told-first}, ItemsLaws.{items_asked-some}}
 
--- the numbers fit a stream where items may be asked for
+-- the numbers fit a stream if it has items or none
 pub stream-asked : (stream : Stream) (items : List Item) → stream_asked stream ≡ Some items
     → (is_stream stream ≡ true) × (items_asked (has_ended stream) stream.begin stream.from (octets_held stream) ≡ Some items)
 stream-asked stream items asked =
@@ -36,7 +36,7 @@ left-parts : (stream : Stream) → stream.from ≤ stream.begin + 8 * length (oc
 left-parts stream there =
     drop-append-le (stream.from - stream.begin) (octet_bits (octets_held stream)) (bits_waiting stream) (omega (arith, there, length-octet_bits (octets_held stream)))
 
--- an item that is told is the first of those that are left
+-- an item that is returned is the first of those that are left
 told-next : (stream : Stream) (item : Item) (items : List Item) (more : List Bool) → stream_asked stream ≡ Some (item ∷ items)
     → (has_ended stream ≡ true → bits_waiting stream ++ more ≡ [])
     → items_left stream more ≡ item ∷ items_left (stream_moved (Some (item ∷ items)) stream) more
@@ -64,7 +64,7 @@ told-next stream item items more asked goes =
     moved-far : (begin from count : ℕ) → begin ≤ from → from + count - begin ≡ from - begin + count
     moved-far begin from count order = omega (arith, order)
 
--- before the end: what is told, and what is left of all that was taken, whatever is taken then
+-- before the end: the items that are returned, and the bits that are left of all that were taken, whatever is taken then
 told-going : (calls : List StreamCall) (first last : Stream) (more : List Bool) → has_ended first ≡ false → AreCalls first calls last
     → items_left first (bits_taken calls ++ more) ≡ items_told calls ++ items_left last more
 told-going [] first last more going are = ap (λ (s : Stream). items_left s more) (sym are)
@@ -84,7 +84,7 @@ told-going (Told item ∷ calls) first last more going are =
     ∙ ap (λ (s : Stream). item ∷ items_left s (bits_taken calls ++ more)) (sym told.2)
     ∙ ap (λ (xs : List Item). item ∷ xs) (told-going calls next last more still are.2)
 
--- after the end: no bit is taken, and with no dibit that waits all that is left is told
+-- after the end: no bit is taken, and if no dibit waits all items that are left are returned
 told-ended : (calls : List StreamCall) (first last : Stream) → has_ended first ≡ true → first.dibits ≡ 0 → AreCalls first calls last → stream_asked last ≡ Some []
     → items_left first [] ≡ items_told calls
 told-ended [] first last ended none are asked =

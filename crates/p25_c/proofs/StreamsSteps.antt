@@ -40,7 +40,7 @@ stream-of stream fits =
     (and_from _ _ (and_from _ _ (eq-eqb (stream.begin % 8) 0 fits.whole) (le-leb stream.begin stream.from fits.order)) (le-leb stream.from (stream.begin + 8 * stream.held) fits.there))
     (le-leb stream.from (2 ^ 59) fits.most))
 
--- bits are left behind octets that are let go
+-- bits are left after octets that are dropped
 pub let-go-bits : (octets front : List ℕ) (held past more : ℕ) (behind : List Bool) → past ≤ held → held ≤ length octets
     → front ≡ take (held - past) (drop past octets) → drop (8 * past + more) (octet_bits (take held octets) ++ behind) ≡ drop more (octet_bits front ++ behind)
 let-go-bits octets front held past more behind order there is =
@@ -56,7 +56,7 @@ let-go-bits octets front held past more behind order there is =
     ∙ ap (drop (8 * past + more)) (append_assoc (octet_bits gone) (octet_bits front) behind)
     ∙ drop_behind (8 * past) more (octet_bits gone) (octet_bits front ++ behind) long
 
--- octets are left that were appended, where no dibits wait
+-- octets are left that were appended, if no dibits wait
 pub appended-bits : (octets more behind : List ℕ) (held room count back waiting : ℕ) → held ≤ length octets → count ≡ length (take room more)
     → back ≤ 8 * held
     → drop back (octet_bits (take (held + count) (take held octets ++ take room more ++ behind)) ++ bits_of 0 waiting)
@@ -73,13 +73,13 @@ appended-bits octets more behind held room count back waiting there long within 
     ∙ drop-append-le back (octet_bits front) (octet_bits new) (omega (arith, front_long, within))
     ∙ ap (λ (zs : List Bool). drop back zs ++ octet_bits new) (sym (ap (λ (zs : List Bool). octet_bits front ++ zs) none ∙ append-nil (octet_bits front)))
 
--- as many are taken by one room as by another, where both have room for as many
+-- one buffer takes as many as another, if both have capacity for as many
 pub take_alike : (octets : List ℕ) (a b : ℕ) → min (length octets) a ≡ min (length octets) b → take a octets ≡ take b octets
 take_alike octets a b same =
     let turned : min a (length octets) ≡ min b (length octets) = omega (arith, same) in
     sym (take_min a octets) ∙ ap (λ (k : ℕ). take k octets) turned ∙ take_min b octets
 
--- octets that were appended once there was room are taken
+-- octets that were appended once there was capacity are taken
 pub appended-taken : (before made after : Stream) (octets : List ℕ) → HasSameBits before made → before.dibits ≡ 0 → length made.octets ≡ 8168
     → after
     ≡ record made {

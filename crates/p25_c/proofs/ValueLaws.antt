@@ -110,7 +110,7 @@ unit-place (Whole place frame fixes) = refl
 unit-place (Broken place count nac duid fields) = refl
 unit-place item = tt
 
--- what is answered once a call is over: that call, and what is answered where no run is open
+-- the calls that are returned once a call is over: that call, and those that are returned if no run is open
 over-step : (call : Call) (place : ℕ) (found : Option UnitSeen) → IfSome found (λ (unit : UnitSeen). unit.place ≡ place) → call.place + call.bits + 3456 < place
     → (rest : Option Call → List Call) → (rest (Some call) ≡ option_to_list (if_linked call) ++ rest None)
     → option_to_list (unit_answer (Some call) found) ++ rest (unit_pending (Some call) found)
@@ -192,7 +192,7 @@ may-true gap reached taken pending item held at below few =
 abbrev Begins : Item → Type 0
 Begins item = place_of item < 2 ^ 60
 
--- what a caller answers to an item, and the run that it keeps, by the run that is open
+-- the call that a caller returns of an item, and the run that it keeps, by the run that is open
 abbrev answer_with : ℕ → Option Call → Option UnitSeen → ℕ → Option Call
 answer_with gap pending found end =
     option_or (unit_answer pending found) (cond (is_set gap && is_over (unit_pending pending found) end) (linked_pending (unit_pending pending found)) None)
@@ -222,7 +222,7 @@ left-is gap reached taken pending item others may =
     ∙ ap₂ (λ (p : Option Call) (u : Option UnitSeen). state_told state.by_gap end (state.taken + 1) (kept_with state.by_gap p u end)) (pending-back gap reached taken pending) (units-told item others)
     ∙ ap₂ (λ (g n : ℕ). state_told g end (n + 1) (kept_with g pending (unit_of item) end)) (state-gap gap reached taken pending) (state-taken gap reached taken pending)
 
--- where the run ends with the item that decides it, what is told then and what is told later are what is answered without that
+-- if the run ends with the item that decides it, the calls that are returned then and later are those that are returned without that
 early : (found : Option UnitSeen) (pending : Option Call) (reached taken end : ℕ) (items : List Item) (ends : Bool) → IfSome pending (IsPending reached taken)
     → IfSome found (λ (unit : UnitSeen). unit_end unit ≡ end) → reached ≤ end → LieFrom end items → (ends ≡ true → is_over (unit_pending pending found) end ≡ true)
     → option_to_list (option_or (unit_answer pending found) (cond ends (linked_pending (unit_pending pending found)) None))
@@ -246,7 +246,7 @@ unit-ends (Whole place frame fixes) = refl
 unit-ends (Broken place count nac duid fields) = refl
 unit-ends item = tt
 
--- what is told of items is what a caller answers to them
+-- the calls of the definition are those that a caller returns of the items
 told-answers : (items : List Item) (others : FieldParts) (gap reached taken : ℕ) (pending : Option Call) → IfSome pending (IsPending reached taken) → LieFrom reached items
     → taken + length items < 2 ^ 32 → All (λ item. place_of item < 2 ^ 60) items
     → told_by (state_told gap reached taken pending) items others ≡ answers_by true (caller_at reached taken pending) items
@@ -270,9 +270,9 @@ told-answers (item ∷ items) others gap reached taken pending held lie few belo
     ∙ early found pending reached taken end items ends held (unit-ends item) (omega (arith, parts.0)) later (second_so (is_set gap) (is_over (unit_pending pending found) end))
     ∙ sym (answers-one (caller_at reached taken pending) item items)
 
--- ---- from any place on
+-- ---- from any position on
 
--- items from a place on are those after a gap of so many bits
+-- items from a position on are those after a gap of so many bits
 zero-more : (n : ℕ) → 0 + n ≡ n
 zero-more n = omega arith
 

@@ -1,4 +1,4 @@
--- What a caller keeps, as numbers and octets: it comes back as it was, and what it answers to items in their order are their calls.
+-- The state of a caller as numbers and octets: it comes back as it was.
 use Rattle.std.proofs.Common.{◌≡◌, ℕ, ◌+◌, ◌-◌, ◌<◌, ◌≤◌, ◌^◌, Bool, true, false, cond, ◌&&◌, List, [], ◌∷◌, ◌++◌, length, Option, Some, None, refl, sym, ap, ap₂, subst, ◌∙◌, arith}
 use Rattle.std.proofs.lemmas.Bool.{eq-eqb, eqb-true, le-leb, leb-true, lt-ltb, ltb-true}
 use Rattle.std.specs.{Prelude.{IfSome, nat_le, option_to_list}, Cmp.{first_so, second_so}}
@@ -8,7 +8,7 @@ use Rattle.p25_c.specs.{declared.calls.CallParts.{CallParts}, declared.calls.Cal
 use Rattle.p25_c.specs.VoiceCalls.{call_held, call_told, end_held, end_number, has_link, has_number, is_kept, link_held, link_octets, may_take, number_held, number_or_zero, pending_held, state_told}
 use Rattle.p25_c.specs.Values.{flag, is_set}
 
--- a run that is kept is pending at the place that was reached
+-- a run that is kept is pending at the bit that was reached
 run-pending : (b : Bool) (run : CallParts) (reached taken place : ℕ)
     → cond b (nat_le (run.place + run.bits) reached && nat_le run.links taken && nat_le run.broken taken) true ≡ true → place ≡ reached → taken ≤ 2 ^ 32 - 2
     → IfSome (cond b (Some (call_held run)) None) (IsPending place (2 ^ 32 - 2))
@@ -20,7 +20,7 @@ run-pending true run reached taken place kept same few =
     record { before = omega (arith, before, same); links = omega (arith, links, few); broken = omega (arith, broken, few) }
 run-pending false run reached taken place kept same few = tt
 
--- where an item may be taken, the run that is open is pending at its place, and its end is below 2^61
+-- if an item may be taken, the run that is open is pending at its first bit
 pub take-pending : (state : CallerState) (item : ItemParts) → may_take state item ≡ true → IfSome (pending_held state) (IsPending item.place (2 ^ 32 - 2))
 take-pending state item may =
     let three = first_so _ _ may in

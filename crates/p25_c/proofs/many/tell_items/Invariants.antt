@@ -4,7 +4,7 @@ use Rattle.p25_stream.specs.Items.{items_by}
 use Rattle.p25_c.specs.Many.{numbers_of, put_first}
 use Rattle.p25_c.proofs.many.tell_items.Given as goal
 
--- so many items are told, and the others are those of the bits from the place on
+-- so many items are set, and the others are those of the bits from the position on
 abbrev pub invariant-loop-i : goal.invariant-loop-i
 invariant-loop-i l =
     let items = items_by l.ended l.from (drop (l.from - l.begin) (octet_bits l.octets)) in

@@ -3,7 +3,7 @@ use Rattle.std.specs.{Prelude.{count_by}, List.{flat_map}}
 use Rattle.p25_c.specs.Packets.{is_bad, slot_good, slot_octets, slot_serial}
 use Rattle.p25_c.proofs.packets.put_slots.Given as goal
 
--- what is said of the slots holds of those before the place
+-- the clauses hold of the slots before the index
 abbrev pub invariant-loop-i : goal.invariant-loop-i
 invariant-loop-i l =
     let some = take l.i l.slots in
