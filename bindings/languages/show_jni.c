@@ -1,4 +1,4 @@
-/* The half in C of ShowJni.java, where HOME is the folder of the JDK:
+/* The half in C of ShowJni.java. HOME is the folder of the JDK:
 
    cc -shared -fPIC -I HOME/include -I HOME/include/linux -I bindings -o out/libshow_jni.so bindings/languages/show_jni.c out/libp25.a
    javac -d out bindings/languages/ShowJni.java */

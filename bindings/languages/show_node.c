@@ -1,5 +1,5 @@
-/* An addon for Node.js by Node-API. nextItem(octets, from) returns the item of a recording that begins at bit from, as an object with place,
-   bits, kind, nac, duid and text, or null if there is none. show.js uses it.
+/* An addon for Node.js by Node-API, which show.js uses. nextItem(octets, from) returns the item of a recording that begins at bit from, or null
+   if there is none. The item is an object: its members are those of the struct p25_item but fixes and text_length, and text is its line.
 
    cc -shared -fPIC -I /usr/include/node -I bindings -o p25.node bindings/languages/show_node.c out/libp25.a */
 #include "p25.h"
