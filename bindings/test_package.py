@@ -4,12 +4,14 @@
 """
 
 import array
+import copy
 import ctypes
 import hashlib
 import os
 import pathlib
 import pickle
 import random
+import shutil
 import subprocess
 import sys
 import threading
@@ -189,9 +191,81 @@ def test_lines_of_units_are_built():
         assert p25.build(item.line) == p25.bridge_unit(item.octets, item.nac, 0) if item.kind_id == p25.Kind.UNIT else item.line == ""
 
 
-def test_pickled():
-    with pytest.raises(TypeError, match="cannot be pickled"):
-        pickle.dumps(p25.Stream())
+def test_items_cannot_be_changed():
+    for item in p25.items(SAMPLES[0].read_bytes()):
+        parts, octets = tuple(item), item.octets
+        for name in ("place", "kind_id", "nac", "text", "_octets", "further"):
+            with pytest.raises(AttributeError, match="cannot be changed"):
+                setattr(item, name, 5)
+            with pytest.raises(AttributeError, match="cannot be changed"):
+                delattr(item, name)
+        assert tuple(item) == parts and item.octets == octets
+
+
+def pickled(given):
+    return pickle.loads(pickle.dumps(given))
+
+
+COPIES = [copy.copy, copy.deepcopy, pickled]
+
+
+@pytest.mark.parametrize("again", COPIES)
+@pytest.mark.parametrize("path", SAMPLES, ids=lambda it: it.name)
+def test_copies_of_items_are_equal(again, path):
+    for item in p25.items(path.read_bytes()):
+        other = again(item)
+        assert (other, hash(other), other.octets, other.fields, other.packet) == (item, hash(item), item.octets, item.fields, item.packet)
+        with pytest.raises(AttributeError, match="cannot be changed"):
+            other.place = 5
+
+
+@pytest.mark.parametrize("again", COPIES)
+def test_copies_of_codes_give_the_same_codewords(again):
+    for code in (p25.RS_24_12, p25.RS_36_20, p25.GOLAY_24, p25.LSD_16, p25.HALF_RATE, p25.THREE_QUARTER_RATE):
+        info = getattr(code, "length", None) or code.k
+        given = 5 if isinstance(code, p25.NumberCode) else bytes(range(info))
+        word = code.write(given)
+        assert again(code).write(given) == word and again(code).read(word) == code.read(word) and repr(again(code)) == repr(code)
+
+
+@pytest.mark.parametrize("again", COPIES)
+@pytest.mark.parametrize("path", SAMPLES, ids=lambda it: it.name)
+def test_copies_of_callers_and_followers_go_on_alone(again, path):
+    items = list(p25.items(path.read_bytes()))
+    for begin in (lambda: p25.Caller(by_gap=True), p25.Follower):
+        one = begin()
+        for item in items[: len(items) // 2]:
+            one.take(item)
+        other, ends = again(one), []
+        for it in (one, other):
+            ends.append([it.take(item) for item in items[len(items) // 2 :]] + [it.finish()])
+        assert ends[0] == ends[1]
+
+
+@pytest.mark.parametrize("kept", [p25.Stream, p25.Softener])
+def test_what_keeps_octets_is_not_pickled(kept):
+    for again in COPIES:
+        with pytest.raises(TypeError, match=f"p25.{kept.__name__} cannot be pickled"):
+            again(kept())
+
+
+@pytest.mark.parametrize("wrong", [None, 5, "gap", (1, 2), [None]], ids=repr)
+def test_arguments_that_are_no_items(wrong):
+    for take in (p25.Caller().take, p25.Follower().take, lambda it: list(p25.calls_with_units([it]))):
+        with pytest.raises(TypeError, match=f"an item is needed, and not {type(wrong).__name__}"):
+            take(wrong)
+
+
+@pytest.mark.parametrize("release", ["3.8", "3.13"])
+def test_types_by_mypy(release):
+    mypy = shutil.which("mypy")
+    if not mypy:
+        pytest.skip("mypy is not installed")
+    words = [mypy, "--strict", "--cache-dir", os.devnull, "--python-version", release, HERE / "p25"]
+    made = subprocess.run(words, stdout=subprocess.PIPE, stderr=subprocess.PIPE, text=True, check=False)
+    if "not supported" in made.stderr:
+        pytest.skip(f"mypy does not know Python {release}")
+    assert made.stdout.startswith("Success"), made.stdout + made.stderr
 
 
 def test_layouts_are_those_of_the_rule():

@@ -47,7 +47,8 @@ def in_pieces(octets, size):
     stream, found = p25.Stream(), []
     for place in range(0, len(octets), size):
         found += stream.feed(octets[place : place + size])
-        assert len(stream._octets) <= 3241 + size, len(stream._octets)
+        held = len(stream._batch[1]) + sum(map(len, stream._pieces))
+        assert held <= 3241 + size, held
     return found + list(stream.finish())
 
 

@@ -8,7 +8,7 @@ import threading
 import warnings
 from functools import partial
 from types import TracebackType
-from typing import TYPE_CHECKING, Any, AsyncIterator, BinaryIO, Callable, Iterator, List, Optional, Tuple, Type, Union
+from typing import TYPE_CHECKING, Any, AsyncIterator, BinaryIO, Callable, Dict, Iterator, List, NoReturn, Optional, Tuple, Type, Union
 
 from . import _calls
 from ._calls import ADDRESS, SIZE, TEXT_ROOM, U64, UNIT_ROOM, ItemParts
@@ -64,13 +64,20 @@ _repair = call("p25_repair")
 _bridge = call("p25_bridge")
 
 
-class Item:
-    """A part of a recording: a whole unit, a broken unit, a false sync, a gap or a cut end. Items lie end to end and cover every bit.
+class _Draft:
+    """The parts of an item while they are written; then the object becomes an Item, which cannot be changed."""
+
+    __slots__ = ("_octets", "_text", "bits", "duid", "fixes", "kind_id", "nac", "place")
+
+
+class Item(_Draft):
+    """A part of a recording: a whole unit, a broken unit, a false sync, a gap or a cut end. Items lie end to end and cover every bit. An item cannot be
+    changed.
 
     As a tuple it is (kind, place, bits, fixes, nac, duid, text).
     """
 
-    __slots__ = ("_octets", "_text", "bits", "duid", "fixes", "kind_id", "nac", "place")
+    __slots__ = ()
 
     kind_id: Kind
     """What it is, as a number with a name."""
@@ -96,8 +103,8 @@ class Item:
     def text(self) -> str:
         """Returns the line of `p25 show`, without its end. The first use makes it."""
         if self._text is None:
-            self._text = _text_of(self._octets, self.place)
-        return self._text
+            object.__setattr__(self, "_text", _text_of(self._octets, self.place))
+        return self._text  # type: ignore[return-value]
 
     @property
     def octets(self) -> bytes:
@@ -158,6 +165,16 @@ class Item:
     def __hash__(self) -> int:
         return hash(self._tuple())
 
+    def __setattr__(self, name: str, value: object) -> NoReturn:
+        raise AttributeError(f"an item cannot be changed, nor its {name}")
+
+    def __delattr__(self, name: str) -> NoReturn:
+        raise AttributeError(f"an item cannot be changed, nor its {name}")
+
+    def __setstate__(self, state: "Tuple[None, Dict[str, object]]") -> None:
+        for name, value in state[1].items():
+            object.__setattr__(self, name, value)
+
     def __repr__(self) -> str:
         return "Item(kind={!r}, place={}, bits={}, fixes={}, nac={}, duid={}, text={!r})".format(*self._tuple())
 
@@ -183,7 +200,8 @@ _many_items: Any = library["p25_items"]
 _length_of, _place_of, _flag_of = SIZE.from_param, U64.from_param, ctypes.c_bool.from_param
 _FIRST, _WITHIN, _ROOM = _place_of(0), tuple(map(_place_of, range(8))), _length_of(_AT_ONCE)
 _OPEN, _ENDED = _flag_of(False), _flag_of(True)
-_joined, _new = b"".join, Item.__new__
+_joined = b"".join
+_new: Any = _Draft.__new__
 
 
 # The two lowest bits of each octet, at each of the four positions of an octet.
@@ -276,8 +294,8 @@ class Stream:
             batch = self._batch
             rows, octets, address, begin, last, _, _ = batch
             for at, bits, fixes, _, nac, duid, kind in rows:
-                item, end = _new(Item), at + bits
-                item.kind_id, item.place, item.bits, item.fixes = _KIND[kind], begin + at, bits, fixes  # type: ignore[assignment]
+                item, end = _new(_Draft), at + bits
+                item.kind_id, item.place, item.bits, item.fixes = _KIND[kind], begin + at, bits, fixes
                 self._reached = begin + end
                 item._octets = bytes(octets[at >> 3 : (end + 7) >> 3])
                 if kind < 3:
@@ -286,6 +304,7 @@ class Stream:
                     # Further octets decide these, so the text is taken while they are there. It is short.
                     item.nac = item.duid = None
                     item._text = _text_at(address, len(octets), begin, item.place, last is _ENDED)
+                item.__class__ = Item
                 yield item
             if batch is self._batch and not self._find():
                 return

@@ -36,7 +36,7 @@ class Follower:
     def take(self, item: Item) -> bytes:
         """Takes the next item and returns the octets that it decides. Error(place) if the item does not begin at the end of the one before it, the first at
         bit 0."""
-        octets, told = item._octets, item_struct(item)
+        told, octets = item_struct(item), item._octets
         return self._answered(
             _follower_take(ctypes.byref(self._state), octets, len(octets), item.place - item.place % 8, ctypes.byref(told), self._room, FOLLOW_ROOM)
         )
@@ -44,6 +44,12 @@ class Follower:
     def finish(self) -> bytes:
         """Returns the octets that were held back. The follower is then as a new one."""
         return self._answered(_follower_finish(ctypes.byref(self._state), self._room, FOLLOW_ROOM))
+
+    def __getstate__(self) -> bytes:
+        return bytes(self._state)
+
+    def __setstate__(self, state: bytes) -> None:
+        self._state, self._room = FollowerState.from_buffer_copy(state), ctypes.create_string_buffer(FOLLOW_ROOM)
 
     def _answered(self, answer: int) -> bytes:
         if answer < 0:
@@ -134,6 +140,9 @@ class Softener:
     def finish(self) -> bytes:
         """Returns the octets that are left; dibits 00 fill the last one."""
         return self._settled(self._waiting + b"\x20" * (-len(self._waiting) % 4), b"", True)
+
+    def __reduce__(self) -> Any:
+        raise TypeError("a p25.Softener cannot be pickled: keep the soft symbols")
 
     def _settled(self, levels: bytes, waiting: bytes, is_last: bool) -> bytes:
         octets = packed(levels, _PLACED)

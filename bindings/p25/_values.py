@@ -267,7 +267,9 @@ def build_packet(nac: int, head: "Octets", data: "Octets" = b"", serials: "Optio
 
 
 def item_struct(item: Item) -> ItemParts:
-    """Returns the numbers of an item as the library takes them."""
+    """Returns the numbers of an item as the library takes them. TypeError if it is no item."""
+    if not isinstance(item, Item):
+        raise TypeError(f"an item is needed, and not {type(item).__name__}")
     return ItemParts(item.place, item.bits, item.fixes, 0, item.nac or 0, item.duid or 0, item.kind_id)
 
 
@@ -300,6 +302,12 @@ class Caller:
         fields = _told_fields(item._octets, item.place) if item.kind_id == Kind.UNIT else None
         answer = _caller_take(ctypes.byref(self._state), ctypes.byref(told), ctypes.byref(fields or self._none), ctypes.byref(self._call))
         return self._answered(answer)
+
+    def __getstate__(self) -> bytes:
+        return bytes(self._state)
+
+    def __setstate__(self, state: bytes) -> None:
+        self._state, self._call, self._none = CallerState.from_buffer_copy(state), CallParts(), FieldParts()
 
     def close(self) -> Optional[Call]:
         """Ends the open run, and returns its call, or None. The caller goes on: the next item begins at the end of the last one."""

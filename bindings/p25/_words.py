@@ -1,7 +1,7 @@
 """Codewords, blocks, CRCs and network identifiers (NID)."""
 
 import ctypes
-from typing import TYPE_CHECKING, Iterable, Optional, Tuple, TypeVar
+from typing import TYPE_CHECKING, Any, Iterable, Optional, Tuple, TypeVar
 
 from ._calls import NO_LETTERS, U8, U16, U32
 from ._library import Cause, Error, call, exactly, number_of, octets_of
@@ -52,6 +52,9 @@ class SymbolCode:
             raise Error(Cause.LETTERS)
         return word.raw
 
+    def __reduce__(self) -> Tuple[Any, ...]:
+        return SymbolCode, (self.n, self.k)
+
     def __repr__(self) -> str:
         return f"<p25.SymbolCode ({self.n},{self.k})>"
 
@@ -75,6 +78,9 @@ class NumberCode:
     def write(self, info: int) -> int:
         """Returns the codeword of an information. Error(letters) if that has more than k bits."""
         return int(self._write(number_of(info, (1 << self.k) - 1, Cause.LETTERS)))
+
+    def __reduce__(self) -> Tuple[Any, ...]:
+        return NumberCode, (self._name, self.n, self.k)
 
     def __repr__(self) -> str:
         return f"<p25.NumberCode {self._name} ({self.n},{self.k})>"
@@ -116,6 +122,9 @@ class BlockCode:
         bits = ctypes.create_string_buffer(25)
         self._write(exactly(octets, self.length), bits)
         return bits.raw
+
+    def __reduce__(self) -> Tuple[Any, ...]:
+        return BlockCode, (self._name, self.length)
 
     def __repr__(self) -> str:
         return f"<p25.BlockCode {self._name}, {self.length} octets>"
