@@ -43,7 +43,7 @@ field_reading_of-none layout bits is = rw is
 
 module _ {IsInnerWord : List Bool → Type 0} {inner_radius : ℕ}
     {IsOuterWord : List Sym → Type 0} {checks : ℕ} {layout : Layout} (codes : HasCodes IsInnerWord inner_radius IsOuterWord checks layout) where
-  -- a field decodes to its transmitted information
+  -- a field within the correction radius decodes to the transmitted information
   pub field_within : (info : List Sym) (sent received : List Bool)
       → HasField IsInnerWord IsOuterWord layout info sent → IsFieldNear checks layout sent received → field_reading_of layout received ≡ Some info
   unfolding outer_word_of

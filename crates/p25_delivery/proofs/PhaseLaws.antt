@@ -110,7 +110,7 @@ orderly-delivering b s w (opening number h) =
     orderly-arrived s (cc)
     (omega (arith, ap (λ (t : Session). t.acknowledged) h.session_is)) (omega (arith, ap (λ (t : Session). length t.delivered) h.session_is))
 
--- all sessions are orderly if those that have ended are
+-- all sessions are orderly if the present one and those that have ended are
 
 pub orderly-divided : (w : Delivery) → IsDivided IsOrderly w → IsOrderly (present_session w) → AreOrderly (sessions_of w)
 orderly-divided w d o =
