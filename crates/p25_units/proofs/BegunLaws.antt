@@ -12,7 +12,7 @@ pub IsBegun-none : (begun : Begun) (bits : List Bool) → begun.nid ≡ None →
 unfolding IsBegun
 IsBegun-none begun bits no_nid no_head = (subst (λ (nid : Option ReadNid). IsIdentifier nid bits) (sym no_nid) tt, subst (λ (head : Option ReadHead). IsHeader head bits) (sym no_head) tt)
 
--- an identifier, or that none can be read
+-- an identifier, or that none can be decoded
 identifier_read : (read : Option ReadNid) (bits : List Bool) → 114 ≤ length bits → option_map (λ read. (read.nid.nac, read.nid.duid)) read ≡ identifier_of bits
     → IfSome read (λ read. read.wrong ≡ front_fixes_of (read.nid.nac, read.nid.duid) bits) → IsIdentifier read bits
 identifier_read None bits long is counted = tt
@@ -31,7 +31,7 @@ unfolding IsBegun
 IsBegun-headed before begun bits read was same is long reads =
     (subst (λ (nid : Option ReadNid). IsIdentifier nid bits) (sym same) was.0, subst (λ (h : Option ReadHead). IsHeader h bits) (sym is) (long, sym reads))
 
--- what was read
+-- the decoded parts
 pub begun-known : (begun : Begun) (bits : List Bool) (read : ReadNid) → IsBegun begun bits → begun.nid ≡ Some read
     → (Some (read.nid.nac, read.nid.duid) ≡ identifier_of bits) × (read.wrong ≡ front_fixes_of (read.nid.nac, read.nid.duid) bits)
 unfolding IsBegun

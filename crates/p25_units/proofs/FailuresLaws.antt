@@ -12,7 +12,7 @@ use Rattle.p25_units.specs.declared.needs.Need.TheVariants.{Length}
 use Rattle.p25_units.proofs.{NeedsLaws.{IsIdentified-from, need_of-there}, KindsLaws.{IsUnitOf, IsUnitOf-need}}
 use Rattle.p25_units.proofs.ReadingsLaws.{body_reading_of-packet, body_reading_of-voice, reading_from-some, unit_reading_of-read}
 
--- Voice units.
+-- Voice data units.
 
 voice_body_fails : (reading : Result VoiceUnit (List Field)) (fields : List Field) → body_from reading ≡ Err fields → reading ≡ Err fields
 voice_body_fails (Ok voice) fields e = absurd (cc)
@@ -29,7 +29,7 @@ unfolding packet_body_from
 packet_fails (Ok packet) fields e = blocks_fail packet (failing_blocks_of packet) fields e
 packet_fails (Err field) fields e = first_fails fields field [] (cc)
 
--- Units.
+-- Data units.
 
 body_fails : (duid : ℕ) (sent : List Bool) (fields : List Field) → IsUnitOf duid sent → body_reading_of duid (bare_of sent) ≡ Err fields → 0 < length fields
 body_fails duid sent fields unit e = elim unit.kind [
@@ -44,7 +44,7 @@ frame_fails : (nid : ℕ × ℕ) (sent : List Bool) (reading : Result Body (List
 frame_fails nid sent (Ok body) fields unit read e = absurd (cc)
 frame_fails nid sent (Err other) fields unit read e = let same : other ≡ fields = cc in body_fails nid.1 sent fields unit (read ∙ ap Err same)
 
--- a unit whose length is known fails in a field or is read
+-- a data unit whose length is known fails in a field or is decoded
 pub unit_fails : (bits : List Bool) (count : ℕ) (fields : List Field) → need_of bits ≡ Length count → unit_reading_of (take count bits) ≡ Err fields → 0 < length fields
 unit_fails bits count fields need e =
     let sent = take count bits in
@@ -56,7 +56,7 @@ unit_fails bits count fields need e =
     frame_fails found.nid sent (body_reading_of found.nid.1 (bare_of sent)) fields (IsUnitOf-need count bits found.nid.1 found.kind) refl
     (sym (reading_from-some found.nid sent) ∙ sym (unit_reading_of-read sent (Some found.nid) read) ∙ e)
 
--- so it is with a reading of it
+-- so it is with a decoding of it
 pub some_fields : (bits : List Bool) (count : ℕ) (reading : Result Frame (List Field))
     → need_of bits ≡ Length count → reading ≡ unit_reading_of (take count bits) → IfErr reading (λ fields. 0 < length fields)
 some_fields bits count (Ok frame) need is = tt

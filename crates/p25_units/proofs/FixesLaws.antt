@@ -15,7 +15,7 @@ use Rattle.p25_units.specs.{UnitParts.{UnitParts}, Units.{body_duid, frame_lengt
 use Rattle.p25_units.specs.{Fixes.{packet_looked, body_looked, looked_of, body_fixes_of, fixes_of}, declared.unit.Body.TheVariants.{Voice, Packet}, declared.frame.Frame.{Frame}}
 use Rattle.p25_units.proofs.UnitsLaws.{blocks-sound, unit_image_of-front, bare_of-image_of, length-unit_image_of, IsSentLength-body}
 
--- the bits at one place, and at none
+-- the bits at one position, and at none
 bits_at-cons : (place : ℕ × ℕ) (places : List (ℕ × ℕ)) (bits : List Bool) → bits_at (place ∷ places) bits ≡ part place.0 place.1 bits ++ bits_at places bits
 unfolding bits_at
 bits_at-cons place places bits = refl
@@ -24,11 +24,11 @@ bits_at-nil : (bits : List Bool) → bits_at [] bits ≡ []
 unfolding bits_at
 bits_at-nil bits = refl
 
--- the first 111 bits of what begins with a front
+-- the first 111 bits of a list that begins with given 112 bits
 first_111 : (bits start : List Bool) → take 112 bits ≡ start → take 111 bits ≡ take 111 start
 first_111 bits start is = sym (take-take 111 112 bits (omega arith)) ∙ ap (take 111) is
 
--- the fixes of a frame that can be sent are those of its front and those after it
+-- the fixes of a sendable frame are those of its sync and NID and those after them
 pub fixes_of-parts : (frame : Frame) (blocks : ℕ) (sent : List Bool) → IsSendableBody frame.unit.body → 2 ≤ blocks → length sent ≡ 72 * blocks
     → fixes_of frame sent ≡ front_fixes_of (frame.unit.nac, body_duid frame.unit.body) sent + body_fixes_of frame.unit (bare_of sent)
 unfolding fixes_of front_fixes_of body_fixes_of
@@ -47,20 +47,20 @@ fixes_of-parts frame blocks sent sendable two long =
     (first_111 bare (front_of sent) (front_of-bare_of blocks sent two long))
     (first_111 image (unit_front unit.nac (body_duid unit.body)) (unit_image_of-front unit sendable)))
 
--- of a voice unit
+-- the fixes of a voice data unit
 pub body_fixes_of-voice : (nac : ℕ) (voice : VoiceUnit) (bare : List Bool)
     → let unit : UnitParts = record { nac = nac; body = Voice voice } in body_fixes_of unit bare ≡ voice_fixes_of voice bare (voice_image_of nac voice)
 unfolding body_fixes_of unit_image_of voice_fixes_of
 body_fixes_of-voice nac voice bare = refl
 
--- after the front of a terminator nothing is looked at
+-- after sync and NID of a terminator no bit is examined
 pub body_fixes_of-end : (nac : ℕ) (bare : List Bool) → let unit : UnitParts = record { nac = nac; body = Voice End } in body_fixes_of unit bare ≡ 0
 unfolding body_fixes_of voice_looked
 body_fixes_of-end nac bare =
     let unit : UnitParts = record { nac = nac; body = Voice End } in
     ap₂ (λ (xs ys : List Bool). distance_of xs ys) (bits_at-nil bare) (bits_at-nil (unit_image_of unit)) ∙ distance_of-same []
 
--- the looked-at places of a packet touch
+-- the examined positions of a packet touch
 block_places : ℕ → List (ℕ × ℕ)
 block_places n = each_below n (λ j. (308 + 196 * j, 196))
 
@@ -103,7 +103,7 @@ fixes_of-image_of frame sound sendable =
     ap (λ (xs : List Bool). distance_of (bits_at places xs) (bits_at places (unit_image_of frame.unit))) (bare_of-image_of frame sound sendable)
     ∙ distance_of-same (bits_at places (unit_image_of frame.unit))
 
--- the fixes of a sound frame where its bits stand among others
+-- the fixes of a sound frame, if its bits are among others
 pub fixes_in : (frame : Frame) (bits : List Bool) (at nac duid : ℕ)
     → IsSoundFrame frame → IsSendableUnit frame.unit → at + frame_length_of frame.unit ≤ length bits → nac ≡ frame.unit.nac → duid ≡ body_duid frame.unit.body
     → (m n : ℕ) → m ≡ front_fixes_of (nac, duid) (drop at bits) → n ≡ body_fixes_of frame.unit (bare_of (part at (frame_length_of frame.unit) bits))

@@ -9,7 +9,7 @@ use Rattle.p25_units.specs.{ImagePlaces.{IsBodyImage, IsImage}, Units.{body_imag
 use Rattle.p25_units.specs.{declared.unit.Body.TheVariants.{Voice, Packet}, declared.frame.Frame.{Frame}}
 use Rattle.p25_units.proofs.UnitsLaws.{symbols-image}
 
--- bits are those of what a unit carries exactly where they stand by places
+-- bits are those of a body exactly if they are by positions
 body-only : (nac : ℕ) (body : Body) → IsSendableBody body → (bare : List Bool) → IsBodyImage nac body bare → bare ≡ body_image_of nac body
 unfolding IsSendableBody IsBodyImage
 body-only nac (Voice voice) sendable bare is = (IsVoiceImage-iff nac voice bare sendable).0 is

@@ -6,20 +6,20 @@ use Rattle.p25_units.specs.{Fixes.{fixes_of}, Items.{item_from}, Needs.{kind_nee
 use Rattle.p25_units.specs.{declared.item.Item.TheVariants.{Whole, Broken}, declared.needs.Need.TheVariants.{Length}}
 use Rattle.p25_units.proofs.UnitPlaceLaws.{IsCountAt-kind}
 
--- the bits of a unit are as many as its count
+-- the bits of a data unit are as many as its count
 long_part : (duid : ℕ) (bits : List Bool) (at count : ℕ) → at ≤ length bits → kind_need duid (drop at bits) ≡ Length count → length (part at count bits) ≡ count
 long_part duid bits at count inside kind =
     let counted = IsCountAt-kind duid bits at count inside kind in
     length-take-le count (drop at bits) (omega (arith, counted.there, length-drop at bits))
 
--- the item of a unit some fields of which fail
+-- the item of a data unit some fields of which fail
 pub broken-is : (place nac duid : ℕ) (bits : List Bool) (at count : ℕ) (fields : List Field) → at ≤ length bits → kind_need duid (drop at bits) ≡ Length count
     → Err fields ≡ reading_from (Some (nac, duid)) (part at count bits)
     → Broken place count nac duid fields ≡ item_from place (nac, duid) (part at count bits) (reading_from (Some (nac, duid)) (part at count bits))
 broken-is place nac duid bits at count fields inside kind read =
     ap (λ n. Broken place n nac duid fields) (sym (long_part duid bits at count inside kind)) ∙ ap (item_from place (nac, duid) (part at count bits)) read
 
--- the item of a whole unit by its frame, and of any unit by its item
+-- the item of a whole data unit by its frame, and of any data unit by its item
 pub read_whole : (place : ℕ) (nid : ℕ × ℕ) (sent : List Bool) (reading : Result Frame (List Field)) (at : ℕ) (frame : Frame) (fixes : ℕ)
     → Whole at frame fixes ≡ item_from place nid sent reading → Ok frame ≡ reading
 read_whole place nid sent (Ok other) at frame fixes is = cc

@@ -7,7 +7,7 @@ use Rattle.p25_units.specs.{Readings.{reading_from}, Items.{covered, place_of, I
 use Rattle.p25_units.specs.{declared.needs.Need.TheVariants.{Length}, declared.item.Item.{Item}, declared.item.Item.TheVariants.{Gap}}
 use Rattle.p25_units.proofs.{NeedsLaws.{IsIdentified-from, IsHead-kind, need_of-there}, KindsLaws.{IsUnitOf-need}, ReadingsLaws.{IsFrameOf, IsFrameOf-reading}}
 
--- by what was read
+-- by the decoding
 pub unit_item_of-read : (place : ℕ) (sent : List Bool) (read : Option (ℕ × ℕ)) → identifier_of sent ≡ read → unit_item_of place sent ≡ identified_item place sent read
 unfolding unit_item_of
 unit_item_of-read place sent read is = ap (identified_item place sent) is
@@ -16,7 +16,7 @@ pub unit_item_of-some : (place : ℕ) (sent : List Bool) (nid : ℕ × ℕ) (rea
     → identifier_of sent ≡ Some nid → reading_from (Some nid) sent ≡ reading → unit_item_of place sent ≡ item_from place nid sent reading
 unit_item_of-some place sent nid reading is read = unit_item_of-read place sent (Some nid) is ∙ ap (item_from place nid sent) read
 
--- the item of a frame or of the fields that fail, where a frame is sound and as long as its bits
+-- the item of a frame or of the fields that fail, if a frame is sound and as long as its bits
 pub record IsItemOf (place : ℕ) (sent : List Bool) (item : Item) : Type 0 where
   pub covers : covered item ≡ length sent
   pub sound : IsSoundItem item
@@ -49,7 +49,7 @@ covered-unit_item_of place bits count e =
 pub IsSoundItem-unit_item_of : (place : ℕ) (bits : List Bool) (count : ℕ) → need_of bits ≡ Length count → IsSoundItem (unit_item_of place (take count bits))
 IsSoundItem-unit_item_of place bits count e = (IsItemOf-unit place bits count e).sound
 
--- its place, whatever was read
+-- its position, whatever the decoding
 place_of-from : (place : ℕ) (nid : ℕ × ℕ) (sent : List Bool) (reading : Result Frame (List Field)) → place_of (item_from place nid sent reading) ≡ place
 place_of-from place nid sent (Ok frame) = refl
 place_of-from place nid sent (Err fields) = refl

@@ -9,21 +9,21 @@ use Rattle.p25_units.specs.{Units.{sent_length}, Needs.{voice_need, head_need, p
 use Rattle.p25_units.proofs.PacketNeedLaws.{length_need-is}
 use Rattle.p25_units.proofs.NeedsLaws.{voice_need-none, voice_need-some, head_need-bad, head_need-good, packet_need-short, packet_need-long, kind_need-packet, kind_need-unpacked, IsHead-kind}
 
--- the bits of a voice unit are as many as its DUID tells
+-- the bits of a voice data unit are as many as its DUID states
 pub record IsVoiceKind (duid : ℕ) (sent : List Bool) : Type 0 where
   pub other : duid ≢ 0xC
   pub bare : ℕ
   pub kind : voice_length_of duid ≡ Some bare
   pub is : length sent ≡ sent_length bare
 
--- the bits of a packet are as many as its header tells
+-- the bits of a packet are as many as its header states
 pub record IsPacketKind (duid : ℕ) (sent : List Bool) : Type 0 where
   pub packet : duid ≡ 0xC
   pub head : PacketHead
   pub read : head_reading_of (bare_of sent) ≡ Ok head
   pub is : length sent ≡ packet_sent_length (head_blocks head)
 
--- the bits of a unit: blocks of 72, as many as its kind tells
+-- the bits of a data unit: blocks of 72, as many as its type states
 pub record IsUnitOf (duid : ℕ) (sent : List Bool) : Type 0 where
   pub blocks : ℕ
   pub long : length sent ≡ 72 * blocks
@@ -41,7 +41,7 @@ module _ (count : ℕ) (bits : List Bool) where
     is = length-take-le count bits there ∙ sym (length_need-is (sent_length bare) (length bits) count (sym (voice_need-some bare (length bits)) ∙ e));
   }
 
-  -- the header of the unit's own bits is that of all
+  -- the header of the data unit's own bits is that of all
   own_head : (n : ℕ) → count ≤ length bits → count ≡ packet_sent_length n → sent_head_of bits ≡ head_reading_of (bare_of (take count bits))
   own_head n there is =
       let long : length (take count bits) ≡ 72 * (count / 72) = length-take-le count bits there ∙ omega (arith, is) in

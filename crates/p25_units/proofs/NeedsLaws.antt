@@ -13,7 +13,7 @@ use Rattle.p25_units.specs.{Units.{sent_length}, Needs.{length_need, voice_need,
 use Rattle.p25_units.specs.declared.needs.Need.TheVariants.{NoSync, More, Length, NoLength}
 use Rattle.p25_units.proofs.UnitsLaws.{IsSentLength, IsSentLength-voice}
 
--- what is needed after an identifier, by a rule for the bits that are there
+-- the need after an identifier, by a rule for the bits that are there
 pub record IsHead (head : List Bool → Need) : Type 0 where
   pub seen : (bits : List Bool) → head bits ≡ NoSync → ⊥
   pub few : (bits : List Bool) (count : ℕ) → head bits ≡ More count → (length bits < count) × (count ≤ 25920)
@@ -31,7 +31,7 @@ IsHead-same head other same is = record {
   waits = λ bits more count e short. same (bits ++ more) ∙ is.waits bits more count (sym (same bits) ∙ e) short;
 }
 
--- no unit
+-- no data unit
 pub IsHead-none : (field : Field) → IsHead (λ bits. NoLength field)
 IsHead-none field = record {
   seen = λ bits e. cc;
@@ -41,7 +41,7 @@ IsHead-none field = record {
   waits = λ bits more count e short. absurd (cc);
 }
 
--- a unit of a known length
+-- a data unit of a known length
 pub length_need-more : (count have : ℕ) → have < count → length_need count have ≡ More count
 unfolding length_need
 length_need-more count have short = cond-true (ltb have count) (More count) (Length count) (lt-ltb have count short)
@@ -73,7 +73,7 @@ IsHead-length count some most whole = record {
       (λ enough e few. absurd (cc));
 }
 
--- so many bits first, and then by a rule that these tell
+-- a number of bits first, and then by a rule that depends on these
 IsHead-after : (n : ℕ) (head : List Bool → Need) (rule : List Bool → List Bool → Need) → n ≤ 25920 → ((bits : List Bool) → length bits < n → head bits ≡ More n)
     → ((bits : List Bool) → n ≤ length bits → head bits ≡ rule bits bits)
     → ((bits : List Bool) → IsHead (rule bits)) → ((bits more all : List Bool) → n ≤ length bits → rule (bits ++ more) all ≡ rule bits all) → IsHead head
@@ -100,7 +100,7 @@ IsHead-after n head rule most short long is same = record {
     longer : (bits more : List Bool) → n ≤ length bits → head (bits ++ more) ≡ rule bits (bits ++ more)
     longer bits more enough = long (bits ++ more) (omega (arith, length-append bits more)) ∙ same bits more (bits ++ more) enough
 
--- a voice unit
+-- a voice data unit
 pub voice_need-none : (have : ℕ) → voice_need None have ≡ NoLength Duid
 unfolding voice_need
 voice_need-none have = refl
@@ -115,7 +115,7 @@ IsHead-voice None lengths = IsHead-none Duid
 IsHead-voice (Some bare) lengths =
     let is = lengths bare refl in IsHead-length (sent_length bare) (omega (arith, is.sent, is.least)) (omega (arith, is.sent, is.most)) (omega (arith, is.sent))
 
--- a packet whose header was read, or fails
+-- a packet whose header was decoded, or fails
 pub head_need-bad : (field : Field) (have : ℕ) → head_need (Err field) have ≡ NoLength field
 unfolding head_need
 head_need-bad field have = refl
@@ -143,7 +143,7 @@ IsHead-packet =
     IsHead-after 316 packet_need (λ bits all. head_need (sent_head_of bits) (length all)) (omega arith) packet_need-short packet_need-long (λ bits. IsHead-head (sent_head_of bits))
     (λ bits more all long. ap (λ reading. head_need reading (length all)) (sent_head_of-append bits more long))
 
--- the unit of a DUID
+-- the data unit of a DUID
 pub kind_need-packet : (bits : List Bool) → kind_need 0xC bits ≡ packet_need bits
 unfolding kind_need
 kind_need-packet bits = refl
@@ -160,7 +160,7 @@ IsHead-kind duid =
           (kind_need duid) (λ bits. kind_need-unpacked duid bits other) (IsHead-voice (voice_length_of duid) (IsSentLength-voice duid))
     ]
 
--- a voice unit has another DUID than a packet
+-- a voice data unit has another DUID than a packet
 no_voice : voice_length_of 0xC ≡ None
 unfolding voice_length_of
 no_voice = refl
@@ -201,7 +201,7 @@ IsHead-synced =
     IsHead-after 114 synced_need (λ bits. identified_need (identifier_of bits)) (omega arith) synced_need-short synced_need-long (λ bits. IsHead-identified (identifier_of bits))
     (λ bits more all long. ap (λ read. identified_need read all) (identifier_of-append bits more long))
 
--- at any place
+-- at any position
 pub need_of-short : (bits : List Bool) → length bits < 48 → need_of bits ≡ More 48
 unfolding need_of
 need_of-short bits short = cond-true (ltb (length bits) 48) (More 48) (cond (has_sync bits) (synced_need bits) NoSync) (lt-ltb (length bits) 48 short)
@@ -216,7 +216,7 @@ need_of-unsynced bits long no' = need_of-long bits long ∙ cond-false (has_sync
 pub need_of-synced : (bits : List Bool) → has_sync bits ≡ true → need_of bits ≡ synced_need bits
 need_of-synced bits yes' = need_of-long bits (has_sync-length bits yes') ∙ cond-true (has_sync bits) (synced_need bits) NoSync yes'
 
--- what is needed, by cases
+-- the need, by cases
 need_of-cases : (P : Need → Type 0) (bits : List Bool) → (length bits < 48 → P (More 48)) → P NoSync → (has_sync bits ≡ true → P (synced_need bits)) → P (need_of bits)
 need_of-cases P bits short unsynced synced =
     elim (cases_lt (length bits) 48) [
@@ -257,7 +257,7 @@ need_of-stays bits more yes' known =
 pub need_of-waits : (bits more : List Bool) (count : ℕ) → has_sync bits ≡ true → need_of bits ≡ More count → length (bits ++ more) < count → need_of (bits ++ more) ≡ More count
 need_of-waits bits more count yes' e short = synced-append bits more yes' ∙ IsHead-synced.waits bits more count (sym (need_of-synced bits yes') ∙ e) short
 
--- a unit whose length is known has an identifier
+-- a data unit whose length is known has an identifier
 pub record IsIdentified (bits : List Bool) (count : ℕ) : Type 0 where
   pub long : 114 ≤ length bits
   pub nid : ℕ × ℕ

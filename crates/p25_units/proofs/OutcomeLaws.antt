@@ -14,19 +14,19 @@ use Rattle.p25_bits.specs.Bits.{part}
 use Rattle.p25_bits.proofs.DistanceLaws.{distance_by-le}
 use Rattle.p25_packet_blocks.proofs.{OutcomeLaws.{head_reading_of-read}, ReadingLaws.{packet_reading_of-good, HasItsLength-head}}
 
--- the wrong bits of a voice unit are those of the body
+-- the bit errors of a voice data unit are those of the body
 pub voice-wrong : (outcome : ReadOutcome) (nac : ℕ) (voice : VoiceUnit) (bare : List Bool) → IfRead outcome (λ wrong. AreFixes voice bare wrong)
     → IfRead outcome (λ wrong. let unit : UnitParts = record { nac = nac; body = Voice voice } in wrong ≡ body_fixes_of unit bare)
 voice-wrong (Read wrong) nac voice bare is = is.value nac ∙ sym (body_fixes_of-voice nac voice bare)
 voice-wrong (Failing fields) nac voice bare is = tt
 
--- a unit has the bits that its header asks for
+-- a data unit has the bits that its header requires
 pub packet_long : (bare : List Bool) (read : ReadHead) → HasItsLength bare → read_head_of (header_bits bare) ≡ Ok read → 308 + 196 * head_blocks read.head ≤ length bare
 packet_long bare read has is =
     let fits : packet_bits (head_blocks read.head) ≤ length bare = HasItsLength-head bare read.head has (head_reading_of-read bare read is) in
     omega (arith, fits)
 
--- what the reading of a packet answers is what a unit carries
+-- the decoding of a packet is the body of the data unit
 outcome_body : (packet other : packet_type) (fields : List Field) (wrong : ℕ) → packet ≡ other → read_or (outcome_of fields wrong) (Packet packet) ≡ whole_from other fields
 unfolding outcome_of
 outcome_body packet other [] wrong same = ap (λ p. Ok (Packet p)) same
@@ -46,7 +46,7 @@ packet_body-is read bare packet outcome head is same =
     ∙ outcome_reading packet (packet_of_head read.head bare) (read.wrong + body_distance read.head bare) same
     ∙ ap packet_body_from (sym (packet_reading_of-good bare read.head (head_reading_of-read bare read head)))
 
--- its wrong bits are those of what the unit carries
+-- its bit errors are those of the body
 pub packet_wrong-is : (bare : List Bool) (packet : packet_type) (unit : UnitParts) (outcome : ReadOutcome) → unit.body ≡ Packet packet
     → IfRead outcome (λ wrong. (nac : ℕ) → wrong ≡ packet_fixes_of nac packet bare)
     → IfRead outcome (λ wrong. wrong ≡ body_fixes_of unit bare)

@@ -8,7 +8,7 @@ use Rattle.p25_units.specs.{UnitParts.{UnitParts}, Fixes.{body_fixes_of, fixes_o
 use Rattle.p25_units.specs.declared.needs.Need.TheVariants.{Length}
 use Rattle.p25_units.proofs.{FixesLaws.{fixes_in}, KindsLaws.{IsUnitOf-need}, ReadingsLaws.{IsFrameOf-reading}, UnitPlaceLaws.{IsCountAt-kind, frame-is, reading-is}}
 
--- the frame of a whole unit by what it carries
+-- the frame of a whole data unit by its body
 pub whole_frame-is : (nac duid : ℕ) (sent : List Bool) (unit : UnitParts) (statuses : List Status) → unit.nac ≡ nac → statuses ≡ statuses_of sent → Ok unit.body ≡ body_reading_of duid (bare_of sent)
     → let frame : Frame = record { unit = unit; statuses = statuses } in Ok frame ≡ reading_from (Some (nac, duid)) sent
 whole_frame-is nac duid sent unit statuses named statuses_is read =
@@ -17,7 +17,7 @@ whole_frame-is nac duid sent unit statuses named statuses_is read =
     Ok frame in
     ap make named ∙ reading-is (nac, duid) sent statuses (Ok unit.body) statuses_is read
 
--- its fixes are those of its front and those after it
+-- its fixes are those of its sync and NID and those after them
 pub whole_fixes-is : (nac duid : ℕ) (bits : List Bool) (at count : ℕ) (frame : Frame) → at ≤ length bits → kind_need duid (drop at bits) ≡ Length count → nac ≤ 4095 → frame.unit.nac ≡ nac
     → Ok frame ≡ reading_from (Some (nac, duid)) (part at count bits)
     → (m n : ℕ) → m ≡ front_fixes_of (nac, duid) (drop at bits) → n ≡ body_fixes_of frame.unit (bare_of (part at count bits)) → m + n ≡ fixes_of frame (part at count bits)
@@ -29,12 +29,12 @@ whole_fixes-is nac duid bits at count frame inside kind fits named read m n fron
     let rest = behind ∙ ap (λ k. body_fixes_of frame.unit (bare_of (part at k bits))) (sym long) in
     fixes_in frame bits at nac duid is.sound (record { nac_fits = small; body = is.sendable }) there (sym named) (sym is.duid) m n front rest ∙ ap (λ k. fixes_of frame (part at k bits)) long
 
--- the outcome of a unit is that of what stands after its front, with the wrong bits of the front
+-- the outcome of a data unit is that of the bits after its sync and NID, with the bit errors of sync and NID
 pub record IsWithFront (front : ℕ) (outcome answer : ReadOutcome) : Type 0 where
   pub read : (wrong : ℕ) → outcome ≡ Read wrong → answer ≡ Read (front + wrong)
   pub failing : (fields : List Field) → outcome ≡ Failing fields → answer ≡ Failing fields
 
--- so it is what its frame is read as
+-- so it is the decoding of its frame
 pub frame_outcome : (front : ℕ) (outcome answer : ReadOutcome) → IsWithFront front outcome answer → (nac duid : ℕ) (sent : List Bool) (unit : UnitParts) (statuses : List Status)
     → unit.nac ≡ nac → statuses ≡ statuses_of sent → read_or outcome unit.body ≡ body_reading_of duid (bare_of sent)
     → let frame : Frame = record { unit = unit; statuses = statuses } in read_or answer frame ≡ reading_from (Some (nac, duid)) sent
@@ -45,7 +45,7 @@ frame_outcome front (Failing fields) answer is nac duid sent unit statuses named
     let frame : Frame = record { unit = unit; statuses = statuses } in
     ap (λ o. read_or o frame) (is.failing fields refl) ∙ reading-is (nac, duid) sent statuses (Err fields) statuses_is read
 
--- and its wrong bits are the fixes of the frame
+-- and its bit errors are the fixes of the frame
 pub frame_wrong : (front : ℕ) (outcome answer : ReadOutcome) → IsWithFront front outcome answer → (nac duid : ℕ) (bits : List Bool) (at count : ℕ) (unit : UnitParts) (statuses : List Status)
     → at ≤ length bits → kind_need duid (drop at bits) ≡ Length count → nac ≤ 4095 → unit.nac ≡ nac → statuses ≡ statuses_of (part at count bits)
     → read_or outcome unit.body ≡ body_reading_of duid (bare_of (part at count bits))

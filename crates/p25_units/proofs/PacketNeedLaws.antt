@@ -10,7 +10,7 @@ use Rattle.p25_packet_blocks.proofs.UnitLaws.{sent_head_of-take}
 use Rattle.p25_units.specs.{declared.needs.Need.TheVariants.{More, Length, NoLength}, Needs.{head_need, kind_need, length_need, need_of, packet_need}}
 use Rattle.p25_units.proofs.NeedsLaws.{head_need-bad, head_need-good, identified_need-some, kind_need-packet, length_need-more, length_need-there, need_of-synced, packet_need-long, packet_need-short, synced_need-read}
 
--- a length that is there is the one that was asked for
+-- a length that is there is the required one
 pub length_need-is : (size have count : ℕ) → length_need size have ≡ Length count → size ≡ count
 length_need-is size have count e = elim (cases_lt have size) [
   | inl few ↦ let two : More size ≡ Length count = sym (length_need-more size have few) ∙ e in absurd (cc)
@@ -36,7 +36,7 @@ packet_need-alone bits count there e = elim (cases_lt (length bits) 316) [
       (alone.0, packet_need-long (take count bits) many ∙ ap (λ h. head_need h (length (take count bits))) (sent_head_of-take count bits alone.0) ∙ ap (head_need (sent_head_of bits)) long ∙ alone.1)
 ]
 
--- what the bits of a packet need
+-- the need of the bits of a packet
 pub need_of-packet_alone : (bits : List Bool) (count : ℕ) (nid : ℕ × ℕ) → has_sync bits ≡ true → identifier_of bits ≡ Some nid → nid.1 ≡ 0xC → kind_need nid.1 bits ≡ Length count → count ≤ length bits
     → need_of (take count bits) ≡ Length count
 need_of-packet_alone bits count nid synced read packet kind there =

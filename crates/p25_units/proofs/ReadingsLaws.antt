@@ -22,7 +22,7 @@ use Rattle.p25_units.proofs.{UnitsLaws.{body_length-known, sent_length-packet}, 
 pub frame_of : ℕ → List Status → Body → Frame
 frame_of nac statuses body = let unit : UnitParts = record { nac = nac; body = body } in record { unit = unit; statuses = statuses }
 
--- by what was read
+-- by the decoding
 pub reading_from-some : (nid : ℕ × ℕ) (sent : List Bool) → reading_from (Some nid) sent ≡ frame_from nid.0 (statuses_of sent) (body_reading_of nid.1 (bare_of sent))
 unfolding reading_from
 reading_from-some nid sent = refl
@@ -43,7 +43,7 @@ pub body_reading_of-voice : (duid : ℕ) (bare : List Bool) → duid ≢ 0xC →
 unfolding body_reading_of
 body_reading_of-voice duid bare other = cond-false (eqb duid 0xC) (packet_body_from (packet_reading_of bare)) (body_from (voice_reading_of duid bare)) (ne_eqb duid 0xC other)
 
--- a packet that can be sent is whole
+-- a sendable packet is whole
 pub IsWholePacket-sendable : (packet : packet_type) → IsSendable packet → IsWholePacket packet
 unfolding IsSendable IsWholePacket
 IsWholePacket-sendable (Confirmed packet) sendable = record {
@@ -52,20 +52,20 @@ IsWholePacket-sendable (Confirmed packet) sendable = record {
 }
 IsWholePacket-sendable (Plain packet) sendable = tt
 
--- what can be sent is whole
+-- a sendable body is whole
 pub IsWholeBody-sendable : (body : Body) → IsSendableBody body → IsWholeBody body
 unfolding IsWholeBody IsSendableBody
 IsWholeBody-sendable (Voice voice) sendable = tt
 IsWholeBody-sendable (Packet packet) sendable = IsWholePacket-sendable packet sendable
 
--- What was read.
+-- The decoding.
 
--- the header of a packet, of which the length of its unit hangs
+-- the header of a packet, on which the length of its data unit depends
 abbrev HasHead : Body → List Bool → Type 0
 HasHead (Voice voice) bare = Unit {0}
 HasHead (Packet packet) bare = head_reading_of bare ≡ Ok (packet_head packet)
 
--- a body that was read is of the DUID, whole, can be sent, and is what the received bits read as
+-- a decoded body has the DUID, is whole and sendable, and is the decoding of the received bits
 pub record IsBodyOf (duid : ℕ) (bare : List Bool) (body : Body) : Type 0 where
   pub duid_is : body_duid body ≡ duid
   pub whole : IsWholeBody body
@@ -90,7 +90,7 @@ unfolding packet_body_from
 packet_body-from bare (Err field) body read e = absurd (cc)
 packet_body-from bare (Ok packet) body read e = packet_body-whole bare packet (failing_blocks_of packet) body read refl e
 
--- a voice unit that was read lies within radius of its own bits
+-- a decoded voice data unit is within the correction radius of its own bits
 voice_read : (nac duid : ℕ) (bare : List Bool) (voice : VoiceUnit) (unit : IsVoiceOf duid voice) → voice_reading_of duid bare ≡ Ok voice → IsVoiceWithin voice (voice_image_of nac voice) bare
 voice_read nac duid bare voice unit is =
     voice_whole nac voice (voice_image_of nac voice) bare (IsVoiceImage-same nac voice unit.sendable) (ap (λ d. voice_reading_of d bare) unit.kind ∙ is)
@@ -119,7 +119,7 @@ IsBodyOf-reading duid bare body e =
       | inr other ↦ voice_body-from duid bare (voice_reading_of duid bare) body refl (sym (body_reading_of-voice duid bare other) ∙ e)
     ]
 
--- its length is that of the unit's bits
+-- its length is that of the data unit's bits
 length_of_body : (duid : ℕ) (sent : List Bool) (body : Body) → IsUnitOf duid sent → IsBodyOf duid (bare_of sent) body → sent_length (body_length body) ≡ length sent
 length_of_body duid sent (Voice voice) unit is = elim unit.kind [
   | inl kind ↦ ap (λ d. sent_length (unwrap_or (voice_length_of d) 0)) is.duid_is ∙ ap (λ found. sent_length (unwrap_or found 0)) kind.kind ∙ sym kind.is
@@ -136,8 +136,7 @@ length_of_body duid sent (Packet packet) unit is = elim unit.kind [
       sent_length-packet (head_blocks (packet_head packet)) ∙ ap (λ (head : PacketHead). packet_sent_length (head_blocks head)) same ∙ sym kind.is
 ]
 
--- a frame that was read has the identifier and the status symbols that were sent, is sound, can be sent and is as long as its
--- bits
+-- a decoded frame has the transmitted identifier and status symbols, is sound and sendable, and is as long as its bits
 pub record IsFrameOf (nid : ℕ × ℕ) (sent : List Bool) (frame : Frame) : Type 0 where
   pub nac : frame.unit.nac ≡ nid.0
   pub duid : body_duid frame.unit.body ≡ nid.1
@@ -174,9 +173,9 @@ frame_from-frame nid sent (Err fields) frame unit read e = absurd (cc)
 pub IsFrameOf-reading : (nid : ℕ × ℕ) (sent : List Bool) (frame : Frame) → IsUnitOf nid.1 sent → reading_from (Some nid) sent ≡ Ok frame → IsFrameOf nid sent frame
 IsFrameOf-reading nid sent frame unit e = frame_from-frame nid sent (body_reading_of nid.1 (bare_of sent)) frame unit refl (sym (reading_from-some nid sent) ∙ e)
 
--- Bits within radius.
+-- Bits within the correction radius.
 
--- a packet reads as itself
+-- a packet decodes to itself
 pub packet_reading_of-near : (nac : ℕ) (packet : packet_type) (bare : List Bool)
     → IsSendable packet → IsBodyWithin (Packet packet) (body_image_of nac (Packet packet)) bare → packet_reading_of bare ≡ Ok packet
 unfolding IsBodyWithin
@@ -191,7 +190,7 @@ head_reading_of-near nac packet bare sendable within =
 packet_body_from-whole : (packet : packet_type) → IsWholePacket packet → packet_body_from (Ok packet) ≡ Ok (Packet packet)
 packet_body_from-whole packet whole = packet_body_from-read packet ∙ ap (whole_from packet) (failing_blocks_of-none packet whole)
 
--- a body is read from bits that are within radius of its own, with the voice frames as received
+-- bits within the correction radius of those of a body decode to it, with the voice frames as received
 pub body_reading_of-near : (nac : ℕ) (body : Body) (bare : List Bool) → IsSendableBody body → length bare ≡ length (body_image_of nac body) → IsBodyWithin body (body_image_of nac body) bare
     → body_reading_of (body_duid body) bare ≡ Ok (received_body body bare)
 unfolding IsSendableBody IsBodyWithin

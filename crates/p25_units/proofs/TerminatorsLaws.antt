@@ -13,7 +13,7 @@ use Rattle.p25_units.specs.{declared.unit.Body.TheVariants.{Voice}, Fixes.{fixes
 use Rattle.p25_units.specs.{Units.{unit_image_of, frame_length_of, image_of, IsWholeBody, IsSoundFrame, IsSendableBody, IsSendableUnit}, WithinRadius.{IsBodyWithin, IsFrontWithin, IsWithinRadius}}
 use Rattle.p25_units.proofs.{UnitsLaws.{front_of-image_of, length-image_of}, FixesLaws.{fixes_of-parts, body_fixes_of-end}}
 
--- a terminator has 144 bits as it is sent
+-- a terminator has 144 transmitted bits
 pub length-terminator : (nac : ℕ) (statuses : List Status) → frame_length_of (terminator nac statuses).unit ≡ 144
 unfolding frame_length_of voice_length_of
 length-terminator nac statuses = refl
@@ -23,7 +23,7 @@ pub IsSoundFrame-terminator : (nac : ℕ) (statuses : List Status) → length st
 unfolding IsWholeBody
 IsSoundFrame-terminator nac statuses two = record { whole = tt; symbols = ap (λ n. 72 * n) two ∙ sym (length-terminator nac statuses) }
 
--- and with a network access code of 12 bits it can be sent
+-- and with a network access code of 12 bits it is sendable
 IsSendableBody-terminator : IsSendableBody (Voice End)
 unfolding IsSendableBody IsSendableVoice
 IsSendableBody-terminator = tt
@@ -34,12 +34,12 @@ IsSendableUnit-terminator nac statuses fits = record { nac_fits = omega (arith, 
 pub symbols-terminator : (nac : ℕ) (statuses : List Status) → IsSoundFrame (terminator nac statuses) → length statuses ≡ 2
 symbols-terminator nac statuses sound = omega (arith, sound.symbols, length-terminator nac statuses)
 
--- its bits as they are sent
+-- its transmitted bits
 pub image_of-terminator : (nac : ℕ) (statuses : List Status) → image_of (terminator nac statuses) ≡ terminator_bits nac statuses
 unfolding image_of unit_image_of unit_front
 image_of-terminator nac statuses = ap (λ bits. woven bits statuses) (image-end nac)
 
--- and their front
+-- and their sync and NID
 module _ (nac : ℕ) (statuses : List Status) (sound : IsSoundFrame (terminator nac statuses)) (fits : nac < 4096) where
   sendable : IsSendableUnit (terminator nac statuses).unit
   sendable = IsSendableUnit-terminator nac statuses fits
@@ -67,7 +67,7 @@ identifier_errors-take nac bits =
 pub two-statuses : (bits : List Bool) → 144 ≤ length bits → length (statuses_of (take 144 bits)) ≡ 2
 two-statuses bits there = length-statuses_of 2 (take 144 bits) (length-take-le 144 bits there)
 
--- bits that begin with a terminator lie within radius of its frame
+-- bits that begin with a terminator are within the correction radius of its frame
 pub IsWithinRadius-terminator : (nac : ℕ) (statuses : List Status) (bits : List Bool) → length statuses ≡ 2 → HasTerminator nac bits → IsWithinRadius (terminator nac statuses) (take 144 bits)
 unfolding IsBodyWithin IsVoiceWithin
 IsWithinRadius-terminator nac statuses bits two has =
@@ -85,7 +85,7 @@ IsWithinRadius-terminator nac statuses bits two has =
       body = tt;
     }
 
--- and the other way round
+-- and conversely
 pub HasTerminator-from : (nac : ℕ) (statuses : List Status) (bits : List Bool) → IsSoundFrame (terminator nac statuses) → nac < 4096 → 144 ≤ length bits
     → IsFrontWithin (terminator nac statuses) (take 144 bits) → HasTerminator nac bits
 HasTerminator-from nac statuses bits sound fits there near = record {

@@ -15,7 +15,7 @@ use Rattle.p25_units.specs.{declared.unit.Body.{Body}, declared.frame.Frame.{Fra
 use Rattle.p25_units.proofs.{UnitsLaws.{IsSentLength-voice}, NeedsLaws.{IsIdentified-from, IsHead-kind, need_of-there, need_of-unsynced}, KindsLaws.{IsUnitOf-need}}
 use Rattle.p25_units.proofs.{ReadingsLaws.{IsFrameOf-reading, reading_from-some, unit_reading_of-read}, ItemsLaws.{unit_item_of-some}}
 
--- what is known of a unit whose length is known
+-- the facts about a data unit whose length is known
 pub record IsUnitAt (bits : List Bool) (at count : ℕ) : Type 0 where
   pub there : at + count ≤ length bits
   pub enough : 114 ≤ count
@@ -41,7 +41,7 @@ IsUnitAt-from bits at count inside e =
       kind = found.kind;
     }
 
--- where its bits stand among others
+-- if its bits are among others
 pub record IsCountAt (bits : List Bool) (at count : ℕ) : Type 0 where
   pub there : at + count ≤ length bits
   pub whole : count % 72 ≡ 0
@@ -55,7 +55,7 @@ IsCountAt-kind duid bits at count inside e =
     let whole : count % 72 ≡ 0 = bounds.2 in
     record { there = omega (arith, bounds.3, length-drop at bits); whole = whole; most = bounds.1; enough = omega (arith, some, whole) }
 
--- an identifier that was read is that one
+-- a decoded identifier is that one
 pub same_nid : (bits : List Bool) (at count : ℕ) (is : IsUnitAt bits at count) (nid : Identifier) → option_map (λ (n : Identifier). (n.nac, n.duid)) (Some nid) ≡ identifier_of (drop at bits)
     → (nid.nac, nid.duid) ≡ is.nid
 same_nid bits at count is nid e = let two : Some (nid.nac, nid.duid) ≡ Some is.nid = e ∙ is.read in cc
@@ -63,7 +63,7 @@ same_nid bits at count is nid e = let two : Some (nid.nac, nid.duid) ≡ Some is
 pub some_nid : (bits : List Bool) (at count : ℕ) → IsUnitAt bits at count → option_map (λ (n : Identifier). (n.nac, n.duid)) None ≡ identifier_of (drop at bits) → ⊥
 some_nid bits at count is e = let two : option_map (λ (n : Identifier). (n.nac, n.duid)) None ≡ Some is.nid = e ∙ is.read in cc
 
--- the readings of its bits
+-- the decoding of its bits
 pub reading_of_unit : (bits : List Bool) (at count : ℕ) (is : IsUnitAt bits at count) → unit_reading_of (part at count bits) ≡ reading_from (Some is.nid) (part at count bits)
 reading_of_unit bits at count is = unit_reading_of-read (part at count bits) (Some is.nid) is.sent
 
@@ -71,24 +71,24 @@ pub item_of_unit : (bits : List Bool) (at count place : ℕ) (is : IsUnitAt bits
     (reading_from (Some is.nid) (part at count bits))
 item_of_unit bits at count place is = unit_item_of-some place (part at count bits) is.nid (reading_from (Some is.nid) (part at count bits)) is.sent refl
 
--- the item by an identifier that was read
+-- the item by a decoded identifier
 pub item-is : (bits : List Bool) (at count place : ℕ) → IsUnitAt bits at count → (nid : Identifier) → option_map (λ (n : Identifier). (n.nac, n.duid)) (Some nid) ≡ identifier_of (drop at bits)
     → (item : Item) → item ≡ item_from place (nid.nac, nid.duid) (part at count bits) (reading_from (Some (nid.nac, nid.duid)) (part at count bits)) → item ≡ unit_item_of place (part at count bits)
 item-is bits at count place is nid read item e =
     let sent = part at count bits in
     e ∙ ap (λ n. item_from place n sent (reading_from (Some n) sent)) (same_nid bits at count is nid read) ∙ sym (item_of_unit bits at count place is)
 
--- the kind by it
+-- the type by it
 pub kind-is : (bits : List Bool) (at count : ℕ) (is : IsUnitAt bits at count) (nid : Identifier) → option_map (λ (n : Identifier). (n.nac, n.duid)) (Some nid) ≡ identifier_of (drop at bits)
     → kind_need nid.duid (drop at bits) ≡ Length count
 kind-is bits at count is nid read = ap (λ n. kind_need n.1 (drop at bits)) (same_nid bits at count is nid read) ∙ is.kind
 
--- the reading by what the unit carries
+-- the decoding by the body of the data unit
 pub reading-is : (nid : ℕ × ℕ) (sent : List Bool) (statuses : List Status) (reading : Result Body (List Field)) → statuses ≡ statuses_of sent → reading ≡ body_reading_of nid.1 (bare_of sent)
     → frame_from nid.0 statuses reading ≡ reading_from (Some nid) sent
 reading-is nid sent statuses reading statuses_is read = ap₂ (λ (s : List Status) (r : Result Body (List Field)). frame_from nid.0 s r) statuses_is read ∙ sym (reading_from-some nid sent)
 
--- a frame that was read is sound and as long as its bits
+-- a decoded frame is sound and as long as its bits
 pub frame-is : (nac duid : ℕ) (bits : List Bool) (at count : ℕ) (frame : Frame) → at ≤ length bits → kind_need duid (drop at bits) ≡ Length count
     → reading_from (Some (nac, duid)) (part at count bits) ≡ Ok frame → IsSoundFrame frame × (frame_length_of frame.unit ≡ count)
 frame-is nac duid bits at count frame inside kind read =
@@ -96,7 +96,7 @@ frame-is nac duid bits at count frame inside kind read =
     let counted = IsCountAt-kind duid bits at count inside kind in
     (is.sound, is.long ∙ length-take-le count (drop at bits) (omega (arith, counted.there, length-drop at bits)))
 
--- the length of a voice unit without status symbols
+-- the length of a voice data unit without status symbols
 pub voice_long : (duid : ℕ) (bits : List Bool) (at count : ℕ) (bare : List Bool) → duid ≢ 0xC → kind_need duid (drop at bits) ≡ Length count → 72 * (count / 72) ≡ count
     → length bare ≡ 70 * (count / 72) → at + count ≤ length bits → voice_length_of duid ≡ Some (length bare)
 voice_long duid bits at count bare other kind whole long there =
@@ -109,7 +109,7 @@ voice_long duid bits at count bare other kind whole long there =
       | inr packet ↦ absurd (other packet.packet)
     ]
 
--- a packet has a header that was read, and the length that it tells
+-- a packet has a decoded header, and the length that this states
 pub record IsPacketAt (bits : List Bool) (at count : ℕ) : Type 0 where
   pub there : at + 316 ≤ length bits
   pub head : sent_read_of (drop at bits) ≡ read_head_of (header_bits (bare_of (part at count bits)))
@@ -142,7 +142,7 @@ IsPacketAt-kind bits at count inside kind =
           }
     ]
 
--- a place has no sync
+-- a position has no sync
 pub need-unsynced : (bits : List Bool) (at : ℕ) → at ≤ length bits → 48 ≤ length bits - at → (distance_of (part at 48 bits) sync_bits ≤ sync_slack → ⊥) → NoSync ≡ need_of (drop at bits)
 need-unsynced bits at inside long far =
     sym (need_of-unsynced (drop at bits) (omega (arith, length-drop at bits))

@@ -13,7 +13,7 @@ use Rattle.p25_units.specs.UnitParts.{UnitParts}
 use Rattle.p25_units.specs.Units.{body_duid, body_length, body_image_of, unit_image_of, sent_length, frame_length_of, image_of, frame_as, IsSoundFrame, IsSendableBody, IsSendableUnit}
 use Rattle.p25_units.specs.{declared.unit.Body.{Body}, declared.unit.Body.TheVariants.{Voice, Packet}, declared.frame.Frame.{Frame}}
 
--- what a length without status symbols is sent as
+-- the transmitted length for a length without status symbols
 pub record IsSentLength (bare : ℕ) : Type 0 where
   pub blocks : ℕ
   pub fills : bare ≡ 70 * blocks
@@ -21,7 +21,7 @@ pub record IsSentLength (bare : ℕ) : Type 0 where
   pub least : 2 ≤ blocks
   pub most : blocks ≤ 360
 
--- whole blocks of 70, at least a front and at most the longest unit
+-- whole blocks of 70, at least sync and NID and at most the longest data unit
 pub IsSentLength-from : (bare : ℕ) → 112 ≤ bare → bare ≤ 25200 → bare % 70 ≡ 0 → IsSentLength bare
 IsSentLength-from bare least most whole = record {
   blocks = bare / 70;
@@ -37,15 +37,15 @@ IsSentLength-voice duid bare is = let bounds = voice_lengths duid bare is in IsS
 pub body_length-voice : (voice : VoiceUnit) (bare : ℕ) → voice_length_of (voice_duid voice) ≡ Some bare → body_length (Voice voice) ≡ bare
 body_length-voice voice bare is = ap (λ found. unwrap_or found 0) is
 
--- each kind of voice unit has a length
+-- each type of voice data unit has a length
 pub body_length-known : (voice : VoiceUnit) → voice_length_of (voice_duid voice) ≡ Some (body_length (Voice voice))
 body_length-known voice = length-known voice
 
--- the length of a packet as it is sent
+-- the transmitted length of a packet
 pub sent_length-packet : (n : ℕ) → sent_length (packet_bare_length n) ≡ packet_sent_length n
 sent_length-packet n = omega arith
 
--- the length of what a unit carries
+-- the length of a body
 pub IsSentLength-body : (body : Body) → IsSentLength (body_length body)
 IsSentLength-body (Voice voice) = IsSentLength-voice (voice_duid voice) (body_length (Voice voice)) (body_length-known voice)
 IsSentLength-body (Packet packet) =
@@ -58,7 +58,7 @@ pub body_duid-lt : (body : Body) → body_duid body < 16
 body_duid-lt (Voice (Header word)) = omega arith
 body_duid-lt body = omega arith
 
--- the bits of a unit have its length
+-- the bits of a data unit have its length
 pub length-body_image_of : (nac : ℕ) (body : Body) → IsSendableBody body → length (body_image_of nac body) ≡ body_length body
 unfolding IsSendableBody
 length-body_image_of nac (Voice voice) sendable = sym (body_length-voice voice (length (voice_image_of nac voice)) (length-voice_image_of nac voice sendable))
@@ -68,7 +68,7 @@ pub length-unit_image_of : (unit : UnitParts) → IsSendableBody unit.body → l
 unfolding unit_image_of
 length-unit_image_of unit sendable = length-body_image_of unit.nac unit.body sendable
 
--- a unit begins with its front
+-- a data unit begins with its sync and NID
 pub body_image_of-front : (nac : ℕ) (body : Body) → IsSendableBody body → take 112 (body_image_of nac body) ≡ unit_front nac (body_duid body)
 unfolding voice_image_of IsSendableBody
 body_image_of-front nac (Voice voice) sendable = take_at (unit_front nac (voice_duid voice)) (voice_body voice) 112 (length-unit_front nac (voice_duid voice))
@@ -78,7 +78,7 @@ pub unit_image_of-front : (unit : UnitParts) → IsSendableBody unit.body → ta
 unfolding unit_image_of
 unit_image_of-front unit sendable = body_image_of-front unit.nac unit.body sendable
 
--- a sound frame has a status symbol for each 70 bits of its unit
+-- a sound frame has a status symbol for each 70 bits of its data unit
 pub symbols-sound : (frame : Frame) → IsSoundFrame frame → body_length frame.unit.body ≡ 70 * length frame.statuses
 unfolding frame_length_of
 symbols-sound frame sound =
@@ -88,7 +88,7 @@ symbols-sound frame sound =
 pub symbols-image : (frame : Frame) → IsSoundFrame frame → IsSendableUnit frame.unit → length (unit_image_of frame.unit) ≡ 70 * length frame.statuses
 symbols-image frame sound sendable = length-unit_image_of frame.unit sendable.body ∙ symbols-sound frame sound
 
--- the sent bits of a sound frame
+-- the transmitted bits of a sound frame
 pub length-image_of-blocks : (frame : Frame) → IsSoundFrame frame → IsSendableUnit frame.unit → length (image_of frame) ≡ 72 * length frame.statuses
 unfolding image_of
 length-image_of-blocks frame sound sendable = length-woven (unit_image_of frame.unit) frame.statuses (symbols-image frame sound sendable)
@@ -110,7 +110,7 @@ blocks-sound frame sound =
     let is = IsSentLength-body frame.unit.body in
     (omega (arith, symbols-sound frame sound, is.fills, is.least), omega (arith, symbols-sound frame sound, is.fills, is.most))
 
--- the front of its sent bits
+-- sync and NID of its transmitted bits
 pub front_of-image_of : (frame : Frame) → IsSoundFrame frame → IsSendableUnit frame.unit → front_of (image_of frame) ≡ unit_front frame.unit.nac (body_duid frame.unit.body)
 front_of-image_of frame sound sendable =
     sym (front_of-bare_of (length frame.statuses) (image_of frame) (blocks-sound frame sound).0 (length-image_of-blocks frame sound sendable))

@@ -13,7 +13,7 @@ use Rattle.p25_units.specs.{declared.frame.Frame.{Frame}, declared.item.Item.The
 use Rattle.p25_units.proofs.{UnitsLaws.{front_of-image_of, length-image_of, length-image_of-blocks, blocks-sound}, NeedsLaws.{IsIdentified-from, need_of-there}, KindsLaws.{IsUnitOf-need}}
 use Rattle.p25_units.proofs.{ReadingsLaws.{IsFrameOf, IsFrameOf-reading}, ItemsLaws.{unit_item_of-some}}
 
--- a whole item is that of the frame that was read
+-- a whole item is that of the decoded frame
 whole-from : (at : ℕ) (nid : ℕ × ℕ) (sent : List Bool) (reading : Result Frame (List Field)) (place : ℕ) (frame : Frame) (fixes : ℕ) → item_from at nid sent reading ≡ Whole place frame fixes
     → (reading ≡ Ok frame) × (place ≡ at) × (fixes ≡ fixes_of frame sent)
 whole-from at nid sent (Ok other) place frame fixes e =
@@ -23,12 +23,12 @@ whole-from at nid sent (Ok other) place frame fixes e =
     (ap Ok same, sym here, sym count ∙ ap (λ (f : Frame). fixes_of f sent) same)
 whole-from at nid sent (Err fields) place frame fixes e = absurd (cc)
 
--- an identifier that was read lies within 11 bits of its word
+-- a decoded identifier lies within 11 bits of its codeword
 identifier_of-word : (sent : List Bool) (nid : ℕ × ℕ) → identifier_of sent ≡ Some nid → distance_of (take 63 (identifier_bits sent)) (take 63 (nid_word nid.0 nid.1)) ≤ 11
 unfolding identifier_of
 identifier_of-word sent nid read = nid_reading_of-near (identifier_bits sent) nid read
 
--- so the front of the sent bits lies within radius of the frame's
+-- so sync and NID of the transmitted bits are within the correction radius of the frame's
 near-from : (nid : ℕ × ℕ) (sent : List Bool) (frame : Frame) → has_sync sent ≡ true → identifier_of sent ≡ Some nid → IsFrameOf nid sent frame → IsSendableUnit frame.unit → IsFrontWithin frame sent
 near-from nid sent frame synced read is sendable =
     let image = image_of frame in

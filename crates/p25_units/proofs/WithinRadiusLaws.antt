@@ -19,7 +19,7 @@ use Rattle.p25_units.proofs.NeedsLaws.{need_of-synced, synced_need-read, identif
 use Rattle.p25_units.proofs.{ReadingsLaws.{IsVoiceImage-same, reading_from-some, unit_reading_of-read, body_reading_of-near, head_reading_of-near}, ItemsLaws.{unit_item_of-some}}
 
 module _ (frame : Frame) (sound : IsSoundFrame frame) (sendable : IsSendableUnit frame.unit) where
-  -- the sent bits of a sound frame are 144 at least
+  -- the transmitted bits of a sound frame are at least 144
   long_image : 144 ≤ length (image_of frame)
   long_image = omega (arith, length-image_of-blocks frame sound sendable, (blocks-sound frame sound).0)
 
@@ -44,7 +44,7 @@ module _ (frame : Frame) (sound : IsSoundFrame frame) (sendable : IsSendableUnit
       identifier_of-near frame.unit.nac duid sent (omega (arith, sendable.nac_fits)) (body_duid-lt frame.unit.body) (omega (arith, long_sent sent near))
       (subst (λ (xs : List Bool). distance_of (take 63 (identifier_bits sent)) (take 63 xs) ≤ 11) is near.front.identifier)
 
--- what a unit needs is its length: of a voice unit by its DUID, of a packet by its header
+-- the need of a data unit is its length: of a voice data unit by its DUID, of a packet by its header
 kind_need-near : (nac : ℕ) (body : Body) (blocks : ℕ) (sent more : List Bool)
     → IsSendableBody body → IsBodyWithin body (body_image_of nac body) (bare_of sent) → length sent ≡ 72 * blocks → body_length body ≡ 70 * blocks
     → kind_need (body_duid body) (sent ++ more) ≡ length_need (sent_length (body_length body)) (length (sent ++ more))
@@ -83,7 +83,7 @@ need_of-near frame sent more sound sendable near =
     ∙ length_need-there (sent_length (body_length body)) (length all) enough
     ∙ ap Length (sym is)
 
--- and read as the frame
+-- and decode to the frame
 pub reading_from-near : (frame : Frame) (sent : List Bool) → IsSoundFrame frame → IsSendableUnit frame.unit
     → IsWithinRadius frame sent → reading_from (Some (frame.unit.nac, body_duid frame.unit.body)) sent ≡ Ok (received_frame frame sent)
 unfolding unit_image_of

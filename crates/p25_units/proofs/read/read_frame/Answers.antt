@@ -9,14 +9,14 @@ use Rattle.p25_units.proofs.{OutcomeLaws.{most-le}, PacketItemLaws.{frame_outcom
 use Rattle.p25_units.proofs.UnitPlaceLaws.{IsCountAt-kind, IsPacketAt, IsPacketAt-kind, voice_long}
 use Rattle.p25_units.proofs.read.read_frame.Goals as goal
 
--- the bits of a unit without status symbols
+-- the bits of a data unit without status symbols
 bare_long : (duid : ℕ) (bits bare : List Bool) (at count : ℕ) → at ≤ length bits → kind_need duid (drop at bits) ≡ Length count → bare ≡ bare_of (part at count bits) → length bare ≡ 70 * (count / 72)
 bare_long duid bits bare at count inside kind is =
     let counted = IsCountAt-kind duid bits at count inside kind in
     let long : length (part at count bits) ≡ 72 * (count / 72) = length-take-le count (drop at bits) (omega (arith, counted.there, length-drop at bits)) ∙ omega (arith, counted.whole) in
     ap length is ∙ length-bare_of (count / 72) (part at count bits) long
 
--- what a packet carries, where its DUID was read
+-- the body of a packet, if its DUID was decoded
 packet_at : (duid : ℕ) (bits : List Bool) (at count : ℕ) → duid ≡ 0xC → at ≤ length bits → kind_need duid (drop at bits) ≡ Length count → IsPacketAt bits at count
 packet_at duid bits at count packet inside kind = IsPacketAt-kind bits at count inside (ap (λ d. kind_need d (drop at bits)) (sym packet) ∙ kind)
 

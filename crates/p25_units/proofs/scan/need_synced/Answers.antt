@@ -7,7 +7,7 @@ use Rattle.p25_units.proofs.NeedsLaws.{head_need-bad, head_need-good, identified
 use Rattle.p25_units.proofs.UnitsLaws.{IsSentLength-voice}
 use Rattle.p25_units.proofs.scan.need_synced.Goals as goal
 
--- what is needed where the identifier was read: what the unit of its DUID needs
+-- if the identifier was decoded, the need is that of the data unit of its DUID
 need_of-read : (rest : List Bool) (nac duid : ℕ) → has_sync rest ≡ true → 114 ≤ length rest → identifier_of rest ≡ Some (nac, duid) → need_of rest ≡ kind_need duid rest
 need_of-read rest nac duid synced long read = need_of-synced rest synced ∙ synced_need-read rest (Some (nac, duid)) long read ∙ identified_need-some (nac, duid) rest
 
@@ -44,7 +44,7 @@ returns-in-Some-voice_length-clause-need c =
     ∙ sym (kind_need-unpacked nid.duid rest c.if-read-ne-PDU.true)
     ∙ sym (need_of-read rest nid.nac nid.duid c.requires.synced (omega (arith, length-drop c.args.at c.args.bits.now)) (sym c.in-Some.ensures.value))
 
--- what a packet needs, where its identifier was read
+-- the need of a packet, if its identifier was decoded
 packet-is : (rest : List Bool) (nac duid : ℕ) → has_sync rest ≡ true → 114 ≤ length rest → identifier_of rest ≡ Some (nac, duid) → duid ≡ 0xC → packet_need rest ≡ need_of rest
 packet-is rest nac duid synced long read packet =
     sym (kind_need-packet rest) ∙ ap (λ d. kind_need d rest) (sym packet) ∙ sym (need_of-read rest nac duid synced long read)
