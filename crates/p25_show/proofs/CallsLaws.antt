@@ -13,7 +13,7 @@ use Rattle.p25_tool.specs.{CallClauses.{CallSays}, Outcomes.{ending_outcome, fil
 use Rattle.p25_show.specs.Calls.{IsShown, ShowSays, all_shown, lines_shown}
 use Rattle.p25_tool.proofs.{RecordedLaws.{shows-units}, RunsLaws.{wanting-command}}
 
--- all that is to be written for an input that is not too long, and for one that is
+-- the whole output for an input that is not too long, and for one that is
 all-short : (octets : List ℕ) → length octets ≤ input_most → all_shown octets ≡ lines_shown true octets
 all-short octets few = by_length (nat_lt input_most (length octets)) (grind (arith, nat_tests))
   where
@@ -29,7 +29,7 @@ all-long octets many = by_length (nat_lt input_most (length octets)) (grind (ari
     by_length false same = cc
 
 module _ (input before : List ℕ) (left last : Option (List ℕ)) where
-  -- a text was written, and it is what the outcome says
+  -- a text was written, and it is the one that the outcome states
   abbrev HasText : (octets rest : List ℕ) → Outcome → Type 0
   HasText octets rest outcome = (text : List ℕ) × (last ≡ Some (before ++ text)) × IsShown octets rest text outcome
 
@@ -59,7 +59,7 @@ module _ (input before : List ℕ) (left last : Option (List ℕ)) where
       (take begun.count (all_shown (worked.octets ++ rest)), begun.beginning.written, (begun.count, refl))
   text-of EndMemory worked rest is parts = absurd (wanting-command Show (Some input) left (Some before) last worked)
 
-  -- where the call is done, the text is that of the units of a recording
+  -- if the call is done, the text is that of the data units of a recording
   text-recorded : (octets rest text : List ℕ) (outcome : Outcome) → input ≡ octets ++ rest → IsShown octets rest text outcome → (arrivals : List Arrival) → IsRecording arrivals input → outcome ≡ Done
       → text ≡ flat_map shown (wholes_of 0 arrivals)
   text-recorded octets rest text outcome parts is arrivals recorded done =

@@ -1,4 +1,4 @@
--- Each row of the tables is what the definitions come to: the layouts by their indices, and then each case of what is decoded.
+-- Each row of the tables is as the definitions state: the layouts by their indices, and then each case of the decodings.
 use Rattle.std.proofs.Common.{◌≡◌, ℕ, ◌*◌, ◌-◌, ◌<◌, ◌⊎◌, inl, inr, Bool, true, false, cond, eqb, ◌||◌, List, [], ◌∷◌, ◌++◌, slice_index, take, drop, Option, Some, None, option_map, Ok, Err, refl, ap, ap₂, ◌∙◌, arith}
 use Rattle.std.proofs.lemmas.Bool.{cases_Bool}
 use Rattle.std.specs.{Cmp.{unsigned_Decides}}
@@ -25,7 +25,7 @@ use Rattle.p25_line.specs.{Octets.{octets_text}, Values.{three_digits}}
 use Rattle.p25_text.specs.{Grammar.{keyed, text_of}, Names.{keys_of, kind_word}, Voices.{frame_octets}, declared.names.UnitKind.TheVariants.{Plain as PlainKind, Response}}
 use Rattle.p25_show.specs.Tables.{hdu_row, ldu_places, ldu1_row, ldu2_row, tdulc_row, word_of, link_of, sync_of, field_bits_of, low_at, frames_of, one_field, three_fields, VoiceRows, format_of, blocks_of, block_at, confirmed_row, header_row, octets_of_blocks, before_check, PacketRows, ExaminedRows, LineRows, spaced}
 
--- the places of the inner codewords, of the codewords of low speed data and of the voice frames
+-- the positions of the inner codewords, of the codewords of low speed data and of the voice frames
 hdu-places : word_places 18 hdu_rows ≡ places_from 112 18 36
 unfolding word_places places_from
 hdu-places = refl
@@ -50,7 +50,7 @@ low-in : (bare : List Bool) → (low_in 0 bare ≡ low_at 1504 bare) × (low_in 
 unfolding low_in
 low-in bare = (ap (λ places. low_at (slice_index places 0) bare) low-places, ap (λ places. low_at (slice_index places 1) bare) low-places)
 
--- a unit by its field
+-- a data unit by its field
 header-is : (read : Option (List Sym)) → header_from (option_map header_of_symbols read) ≡ one_field HeaderWord (λ bits. Header (word_of bits)) (option_map symbol_bits read)
 unfolding header_from header_of_symbols header_of_bits
 header-is (Some symbols) = refl

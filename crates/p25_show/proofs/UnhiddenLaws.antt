@@ -1,4 +1,4 @@
--- A unit that hides another begins at a sync, at most 25,919 bits before it. If that sync lies in a unit that ends before, this is the same
+-- A data unit that hides another begins at a sync, at most 25,919 bits before it. If that sync lies in a data unit that ends before, this is the same data
 -- unit, since items lie end to end; but the hiding one ends later.
 use Rattle.std.proofs.Common.{◌≡◌, ℕ, ◌+◌, ◌<◌, ◌≤◌, ◌⊎◌, inl, inr, Bool, true, List, [], ◌∷◌, ◌++◌, length, drop, ap, sym, ◌∙◌, subst, arith}
 use Rattle.std.proofs.{lemmas.Bool.{true≢false}, lemmas.List.Sums.{sum_by-cons}, lemmas.List.Concat.{flat_map-append}}
@@ -12,7 +12,7 @@ use Rattle.p25_recording_filters.specs.ItemOutputs.{shown}
 use Rattle.p25_show.specs.Unhidden.{AloneIsFound, FoundHasLine, IsUnhidden, UnhiddenIsFound}
 use Rattle.p25_stream.proofs.{ArrivalLaws.{unit-found}, ItemLaws.{item-among, item-covers}, ItemsLaws.{first_item-cases}}
 
--- a first item that is a unit begins at a sync, and has at most 25,920 bits
+-- a first item that is a data unit begins at a sync, and has at most 25,920 bits
 unit-synced : (at : ℕ) (bits : List Bool) (item : Item) → item ≡ first_item at bits → IsUnitItem item → (has_sync bits ≡ true) × (covered item ≤ 25920)
 unit-synced at bits item is unit =
     first_item-cases (λ first. item ≡ first → (has_sync bits ≡ true) × (covered item ≤ 25920)) at bits
@@ -38,7 +38,7 @@ same_item (x ∷ xs) (y ∷ ys) item item' after after' same some low high =
     same_item xs ys item item' after after' rest some (omega (arith, ap covered first, sum_by-cons covered x xs, sum_by-cons covered y ys))
     (omega (arith, ap covered first, sum_by-cons covered x xs, sum_by-cons covered y ys))
 
--- nothing hides a position before which each sync lies in a unit that has ended
+-- nothing hides a position before which each sync lies in a data unit that has ended
 none_hidden : (at : ℕ) (bits rest : List Bool) → IsUnhidden at bits rest (items_of at (bits ++ rest)) → IsHidden (at + length bits) (items_of at (bits ++ rest)) → ⊥
 none_hidden at bits rest unhidden hidden =
     let all = bits ++ rest in
