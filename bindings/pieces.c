@@ -59,7 +59,7 @@ static bool is_next(struct lines *lines, const char *text, size_t length) {
     return same;
 }
 
-/* Returns whether the numbers of two items are the same but for the length of the text. */
+/* Returns whether the numbers of two items are the same, except the length of the text. */
 static bool are_same(const p25_item *a, const p25_item *b) {
     return a->place == b->place && a->bits == b->bits && a->fixes == b->fixes && a->nac == b->nac && a->duid == b->duid && a->kind == b->kind;
 }

@@ -84,7 +84,7 @@ class Item(_Draft):
     place: int
     """The bit of the recording at which it begins."""
     bits: int
-    """How many bits it covers, at least 1."""
+    """The number of its bits, at least 1."""
     fixes: int
     """The number of bit errors in the examined bits of a unit; else 0."""
     nac: Optional[int]

@@ -25,7 +25,7 @@ class LinkKind(enum.IntEnum):
 
 
 class CallEnd(enum.IntEnum):
-    """How a call ends."""
+    """The end of a call."""
 
     OPEN = _calls.END_OPEN
     """Without a terminator."""
@@ -47,11 +47,11 @@ class LinkControl(NamedTuple):
     source: Optional[int] = None
     """The unit that speaks, 24 bits."""
     group: Optional[int] = None
-    """The group of a call to one."""
+    """The group of a group call."""
     destination: Optional[int] = None
-    """The unit that is called by another, 24 bits."""
+    """The called unit of a call from unit to unit, 24 bits."""
     emergency: bool = False
-    """Whether a call to a group is an emergency."""
+    """True if a call to a group is an emergency."""
 
 
 class Fields(NamedTuple):
@@ -86,17 +86,17 @@ class Call(NamedTuple):
     place: int
     """The bit at which its first unit begins."""
     bits: int
-    """How many bits it has, from there to the end of its last unit."""
+    """The number of bits from there to the end of its last unit."""
     nac: int
     """The network access code (NAC) of its units."""
     late: bool
-    """Whether it begins without a header (HDU)."""
+    """True if it begins without a header (HDU)."""
     end: CallEnd
-    """How it ends."""
+    """Its end."""
     links: int
-    """How many units of voice it has (LDU1 or LDU2)."""
+    """The number of its voice units (LDU1 or LDU2)."""
     broken: int
-    """How many of its units are broken."""
+    """The number of its broken units."""
     lc: Optional[bytes]
     """The link control (LC) of the first whole unit that carries one, nine octets."""
     algid: Optional[int]
@@ -140,7 +140,7 @@ class Packet(NamedTuple):
     response_status: int
     """The last three bits of octet 1, in every format; in a response they are its status."""
     good: Tuple[bool, ...]
-    """Whether the check of each block of a confirmed packet agrees."""
+    """For each block of a confirmed packet, true if its check agrees."""
     serials: Tuple[int, ...]
     """The serial number of each block of a confirmed packet, 0 if its check does not agree."""
     data: bytes
