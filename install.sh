@@ -122,7 +122,7 @@ done
 # In the installed page of the samples, the commands run in the folder of the samples.
 "$top/packaging/page" "$top/samples/README.md" >"$made"
 put 644 "$made" share/p25/samples/README.md
-echo "installed the companions p25-* beside it, and the recipes and samples in $1/share/p25"
+echo "installed the helper scripts p25-* beside it, and the recipes and samples in $1/share/p25"
 
 # The library, brought up to date, with its header and its file for pkg-config.
 if [ -f "$top/out/libp25.a" ]; then
@@ -165,7 +165,7 @@ if [ -f "$top/out/libp25.a" ] && [ -f "$top/out/libp25.so" ]; then
     put 644 "$top/out/libp25.so" "lib/libp25.so.$release"
     name_too "libp25.so.$release" "lib/libp25.so.${release%%.*}"
     name_too "libp25.so.${release%%.*}" lib/libp25.so
-    echo "a program that is linked with -lp25 starts where $1/lib is searched: by LD_LIBRARY_PATH, by -Wl,-rpath, or by ldconfig"
+    echo "a program that is linked with -lp25 starts if $1/lib is searched: by LD_LIBRARY_PATH, by -Wl,-rpath, or by ldconfig"
     # The folder in which Python looks below PREFIX; P25_PYTHON names another one below it.
     modules=${P25_PYTHON-$(python3 -c 'import sysconfig; print(sysconfig.get_path("purelib", "posix_prefix", {"base": "/base"})[6:])' 2>/dev/null)} || modules=
     if [ -n "$modules" ]; then

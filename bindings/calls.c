@@ -159,14 +159,14 @@ static void item_edges(void) {
     size_t length;
     memset(&told, MARK, sizeof told);
     memset(text, MARK, sizeof text);
-    check(p25_next_item(octets, n, 0, 0, false, &told.item, text, 0) == P25_ITEM, "an item without room for its text");
+    check(p25_next_item(octets, n, 0, 0, false, &told.item, text, 0) == P25_ITEM, "an item without capacity for its text");
     check(all_are(told.after, sizeof told.after, MARK), "nothing is written after an item");
-    check(all_are(text, sizeof text, MARK), "no text is written where there is no room");
+    check(all_are(text, sizeof text, MARK), "no text is written without capacity");
     length = told.item.text_length;
     check(length > 0 && length < P25_TEXT_ROOM && told.item.place == 0 && told.item.kind == P25_UNIT, "the first item");
-    check(p25_next_item(octets, n, 0, 0, false, &told.item, text, length) == P25_ITEM, "an item with room for its text alone");
+    check(p25_next_item(octets, n, 0, 0, false, &told.item, text, length) == P25_ITEM, "an item with capacity for its text alone");
     check(all_are(text, sizeof text, MARK), "no text is written without its zero");
-    check(p25_next_item(octets, n, 0, 0, false, &told.item, text, length + 1) == P25_ITEM, "an item with room for its text and the zero");
+    check(p25_next_item(octets, n, 0, 0, false, &told.item, text, length + 1) == P25_ITEM, "an item with capacity for its text and the zero");
     check(strlen(text) == length && all_are(text + length + 1, sizeof text - length - 1, MARK), "a text, a zero, and nothing after it");
 
     memset(&told, MARK, sizeof told);
@@ -175,18 +175,18 @@ static void item_edges(void) {
     check(p25_next_item(octets, 5, 0, 0, false, &told.item, text, sizeof text) == P25_NONE, "no item while octets are wanting");
     check(p25_next_item(octets, 0, 0, 0, true, &told.item, text, sizeof text) == P25_NONE, "no item of no octets");
     check(p25_next_item(octets, n, 4, 8, true, &told.item, text, sizeof text) == P25_OUTSIDE, "a beginning inside an octet");
-    check(p25_next_item(octets, n, 16, 15, true, &told.item, text, sizeof text) == P25_OUTSIDE, "a place before the octets");
-    check(p25_next_item(octets, n, 0, 8 * (uint64_t)n + 1, true, &told.item, text, sizeof text) == P25_OUTSIDE, "a place after the octets");
+    check(p25_next_item(octets, n, 16, 15, true, &told.item, text, sizeof text) == P25_OUTSIDE, "a position before the octets");
+    check(p25_next_item(octets, n, 0, 8 * (uint64_t)n + 1, true, &told.item, text, sizeof text) == P25_OUTSIDE, "a position after the octets");
     check(p25_next_item(octets, n, (uint64_t)1 << 59, ((uint64_t)1 << 59) + 1, true, &told.item, text, sizeof text) == P25_OUTSIDE,
-          "a place above 2^59");
-    check(p25_next_item(octets, n, UINT64_MAX - 7, UINT64_MAX, true, &told.item, text, sizeof text) == P25_OUTSIDE, "the greatest place");
-    check(all_are(&told, sizeof told, MARK) && all_are(text, sizeof text, MARK), "what answers no item writes nothing");
+          "a position above 2^59");
+    check(p25_next_item(octets, n, UINT64_MAX - 7, UINT64_MAX, true, &told.item, text, sizeof text) == P25_OUTSIDE, "the greatest position");
+    check(all_are(&told, sizeof told, MARK) && all_are(text, sizeof text, MARK), "a call that returns no item writes nothing");
 
     check(p25_next_item(octets, n, 8000, 8000, true, &told.item, text, sizeof text) == P25_ITEM && told.item.place == 8000,
-          "places are those of the recording where octets were dropped");
+          "positions are those of the recording if octets were dropped");
     check(p25_next_item(octets, n, (uint64_t)1 << 59, (uint64_t)1 << 59, true, &told.item, text, sizeof text) == P25_ITEM &&
               told.item.place == (uint64_t)1 << 59,
-          "the greatest place that is taken");
+          "the greatest position that is taken");
 }
 
 /* Checks the octets that are written of a unit, and the order of refusals. */
@@ -198,22 +198,22 @@ static void unit_edges(void) {
     memset(unit, MARK, sizeof unit);
     check(p25_build(line, length, 4, unit, 0) == P25_WRONG_STATUS, "a status above 3");
     check(p25_build("tdu", 3, 4, unit, 0) == P25_WRONG_STATUS, "a status above 3 before a fault");
-    check(p25_build("tdu", 3, 3, unit, 0) == P25_LINE_KEY, "a fault before room that is wanting");
+    check(p25_build("tdu", 3, 3, unit, 0) == P25_LINE_KEY, "a fault before too little capacity");
     check(p25_build("", 0, 0, unit, 64) == P25_LINE_FORM, "a line of no octets");
-    check(p25_build(line, length, 1, unit, 17) == P25_NO_ROOM, "room for an octet less");
+    check(p25_build(line, length, 1, unit, 17) == P25_NO_ROOM, "capacity for an octet less");
     check(all_are(unit, sizeof unit, MARK), "what builds no unit writes nothing");
-    check(p25_build(line, length, 1, unit, 18) == 18, "room for the unit alone");
+    check(p25_build(line, length, 1, unit, 18) == 18, "capacity for the unit alone");
     check(unit[0] == 0x55 && unit[17] == 1 && all_are(unit + 18, sizeof unit - 18, MARK), "a unit, and nothing after it");
 
     memset(other, MARK, sizeof other);
     check(p25_repair(unit, 17, other, 64) == P25_NO_UNIT, "a unit that is cut off");
     check(p25_repair(unit, 0, other, 64) == P25_NO_UNIT, "no octets");
-    check(p25_repair(unit + 1, 17, other, 0) == P25_NO_UNIT, "no unit before no room");
-    check(p25_repair(unit, 18, other, 17) == P25_NO_ROOM, "room for an octet less than the repaired unit");
+    check(p25_repair(unit + 1, 17, other, 0) == P25_NO_UNIT, "no unit before no capacity");
+    check(p25_repair(unit, 18, other, 17) == P25_NO_ROOM, "capacity for an octet less than the repaired unit");
     check(p25_bridge(unit, 17, 4096, 4, other, 0) == P25_WRONG_NAC, "an access code above 4095 before all else");
     check(p25_bridge(unit, 17, 4095, 4, other, 0) == P25_WRONG_STATUS, "a status above 3 before no unit");
-    check(p25_bridge(unit, 17, 4095, 3, other, 0) == P25_NO_UNIT, "no unit before no room, bridged");
-    check(p25_bridge(unit, 18, 4095, 3, other, 17) == P25_NO_ROOM, "room for an octet less than the bridged unit");
+    check(p25_bridge(unit, 17, 4095, 3, other, 0) == P25_NO_UNIT, "no unit before no capacity, bridged");
+    check(p25_bridge(unit, 18, 4095, 3, other, 17) == P25_NO_ROOM, "capacity for an octet less than the bridged unit");
     check(all_are(other, sizeof other, MARK), "what repairs or bridges no unit writes nothing");
     check(p25_repair(unit, 64, other, 18) == 18 && memcmp(unit, other, 18) == 0, "a unit with octets after it");
     check(all_are(other + 18, sizeof other - 18, MARK), "nothing is written after a repaired unit");
@@ -247,7 +247,7 @@ static void number_word(const char *received, int32_t (*read)(uint32_t *), uint3
     uint32_t word = (uint32_t)strtoul(received, NULL, 16);
     int32_t answer = read(&word);
     if (answer == P25_BEYOND) {
-        check(word == strtoul(received, NULL, 16), "a word beyond the radius stays");
+        check(word == strtoul(received, NULL, 16), "an uncorrectable word stays");
         puts("Beyond");
         return;
     }
@@ -261,7 +261,7 @@ static void identifier_word(const char *received) {
     uint8_t duid = 0xEF;
     int32_t answer = p25_nid_read(strtoull(received, NULL, 16) << 1, &nac, &duid);
     if (answer == P25_BEYOND) {
-        check(nac == 0xABCD && duid == 0xEF, "what an identifier beyond the radius would set stays");
+        check(nac == 0xABCD && duid == 0xEF, "the values of an uncorrectable identifier stay");
         puts("Beyond");
         return;
     }
@@ -306,14 +306,14 @@ static void word_edges(void) {
     marks[35] = true;
     check(p25_rs_36_20_read(symbols) == P25_NO_LETTERS && symbols[35] == 64, "an octet above 63 is no symbol");
     check(p25_rs_36_20_read_erased(symbols, marks) == P25_NO_LETTERS && symbols[35] == 64, "an erased octet above 63 is no symbol");
-    check(p25_rs_36_20_write(symbols) == 0 && symbols[35] == 0, "what stands in the check symbols is not looked at");
+    check(p25_rs_36_20_write(symbols) == 0 && symbols[35] == 0, "the check symbols are not examined");
     symbols[19] = 255;
     check(p25_rs_36_20_write(symbols) == P25_NO_LETTERS && symbols[19] == 255, "an octet above 63 is no information");
     symbols[19] = 0;
     memset(symbols, 1, 16);
     memset(marks, true, 16);
     marks[35] = false;
-    check(p25_rs_36_20_read(symbols) == P25_BEYOND && symbols[15] == 1, "sixteen wrong symbols are beyond the radius");
+    check(p25_rs_36_20_read(symbols) == P25_BEYOND && symbols[15] == 1, "sixteen wrong symbols are uncorrectable");
     check(p25_rs_36_20_read_erased(symbols, marks) == 16 && symbols[0] == 0 && symbols[15] == 0, "sixteen erased symbols are read");
     check(p25_rs_36_20_read_erased(symbols, marks) == 0, "erased symbols that are right are not counted");
     check(p25_golay24_read(&word) == P25_NO_LETTERS && word == UINT32_C(1) << 24, "a number of 25 bits is no word of 24");
@@ -328,7 +328,7 @@ static void word_edges(void) {
     block[24] |= 0x0F;
     check(p25_half_rate_read(block, carried) == 0, "the last four bits of a block are not looked at");
     block[3] ^= 0x81;
-    check(p25_half_rate_read(block, carried) == 2 && all_are(carried, 12, 0), "two wrong bits at half rate");
+    check(p25_half_rate_read(block, carried) == 2 && all_are(carried, 12, 0), "two bit errors at half rate");
 }
 
 int main(int count, char **argument) {

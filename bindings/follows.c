@@ -57,7 +57,7 @@ static void follow_item(p25_follower *follower, const uint8_t *octets, size_t n,
               "an octet less than is written");
         check(p25_follower_take(&again, octets, n, begin, item, exact.at, exact.size) == count && memcmp(exact.at, room.at, (size_t)count) == 0 &&
                   memcmp(&again, follower, sizeof again) == 0,
-              "room for just what is written");
+              "capacity for just the output");
         give_back(&little);
         give_back(&exact);
     }
@@ -177,14 +177,14 @@ static void edges(void) {
                     follower.waiting < 1 << follower.waits;
         before = follower;
         int32_t answer = below(2) == 0 ? p25_follower_take(&follower, unit, 18, 0, &item, room, sizeof room) : p25_follower_finish(&follower, room, sizeof room);
-        check(fits ? answer >= 0 : answer == P25_OUTSIDE, "what a strange follower answers");
+        check(fits ? answer >= 0 : answer == P25_OUTSIDE, "what a strange follower returns");
         check(fits || memcmp(&follower, &before, sizeof follower) == 0, "a strange follower stays");
     }
     check(p25_relay_at(unit, 18, 0, 0, 4096, 4, NULL, 0) == P25_WRONG_NAC, "a NAC of 13 bits");
     check(p25_relay_at(unit, 18, 0, 0, 4095, 4, NULL, 0) == P25_WRONG_STATUS, "a status symbol above 3");
-    check(p25_relay_at(unit, 18, 0, 145, 0, 0, NULL, 0) == P25_OUTSIDE, "a place behind the octets");
+    check(p25_relay_at(unit, 18, 0, 145, 0, 0, NULL, 0) == P25_OUTSIDE, "a position after the octets");
     check(p25_relay_at(unit, 18, 0, 144, 0, 0, NULL, 0) == 0, "the end of the octets");
-    check(p25_relay_at(unit, 18, 0, 0, 0, 0, room, 17) == P25_NO_ROOM, "little room to forward");
+    check(p25_relay_at(unit, 18, 0, 0, 0, 0, room, 17) == P25_NO_ROOM, "little capacity to forward");
     static int8_t levels[12961];
     check(p25_soften(levels, 12961, room, sizeof room) == P25_OUTSIDE, "more levels than a unit has");
     check(p25_soften(levels, 12960, room, sizeof room) == 3240, "as many as the longest has");
@@ -192,7 +192,7 @@ static void edges(void) {
     for (int i = 0; i < 4; i++) {
         check(p25_level_dibit(p25_dibit_level((uint8_t)i)) == i, "a dibit is that of its level");
     }
-    check(strcmp(p25_answer_name(P25_NO_UNIT), "unit") == 0 && strcmp(p25_answer_name(P25_LINE_KEY), "key") == 0 && *p25_answer_name(1) == 0, "names of answers");
+    check(strcmp(p25_answer_name(P25_NO_UNIT), "unit") == 0 && strcmp(p25_answer_name(P25_LINE_KEY), "key") == 0 && *p25_answer_name(1) == 0, "names of return values");
     printf("edges, %d failures\n", failures);
 }
 

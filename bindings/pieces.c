@@ -59,7 +59,7 @@ static bool is_next(struct lines *lines, const char *text, size_t length) {
     return same;
 }
 
-/* Returns whether the numbers of two items are the same but for the length of the text. */
+/* Returns whether the numbers of two items are the same, except the length of the text. */
 static bool are_same(const p25_item *a, const p25_item *b) {
     return a->place == b->place && a->bits == b->bits && a->fixes == b->fixes && a->nac == b->nac && a->duid == b->duid && a->kind == b->kind;
 }
@@ -97,7 +97,7 @@ static void by_stream_and_item(const p25_stream *stream, const p25_item *item) {
         }
         check(a == b && memcmp(one, other, sizeof one) == 0 && memcmp(&one_fields, &other_fields, sizeof one_fields) == 0 &&
                   memcmp(&one_packet, &other_packet, sizeof one_packet) == 0 && memcmp(&one_follower, &other_follower, sizeof one_follower) == 0,
-              "what takes a stream and an item answers as what takes octets");
+              "a call with a stream and an item returns the same as one with octets");
     }
 }
 
@@ -120,7 +120,7 @@ static void take_items(p25_stream *stream, const struct buffer *recording, struc
         check(item->text_length == (with_text ? same.text_length : 0), "the length of a text");
         check(!with_text || strcmp(line, (char *)text.at) == 0, "the text of an item of a stream");
         check(is_next(lines, line, same.text_length), "the next line of p25 show");
-        check(stream->from == from + item->bits, "a stream goes on behind an item");
+        check(stream->from == from + item->bits, "a stream continues after an item");
         by_stream_and_item(stream, item);
         uint8_t here[P25_UNIT_ROOM];
         uint8_t there[P25_UNIT_ROOM];
@@ -151,7 +151,7 @@ static void by_stream(const struct buffer *recording, struct lines lines, bool d
         }
         int32_t taken = dibits ? p25_stream_push_dibits(stream, guarded.at, size) : p25_stream_push(stream, guarded.at, size);
         check(taken >= 0 && (size_t)taken <= size && (taken > 0 || size == 0), "a stream takes some of what it is given");
-        check(size > unit * 4927 || (size_t)taken == size, "there is room for 4,927 octets");
+        check(size > unit * 4927 || (size_t)taken == size, "there is capacity for 4,927 octets");
         give_back(&guarded);
         at += (size_t)taken;
         take_items(stream, recording, &lines, with_text);
@@ -159,7 +159,7 @@ static void by_stream(const struct buffer *recording, struct lines lines, bool d
     p25_stream_end(stream);
     check(p25_stream_push(stream, recording->at, recording->size) == P25_ENDED, "a stream that has ended takes nothing");
     take_items(stream, recording, &lines, with_text);
-    check(lines.at == lines.end && stream->from == 8 * (uint64_t)recording->size, "a stream tells all items");
+    check(lines.at == lines.end && stream->from == 8 * (uint64_t)recording->size, "a stream has all items");
     check(is_whole(&place, 0, sizeof *stream), "nothing is written beside a stream");
     give_back(&place);
 }
@@ -174,7 +174,7 @@ static void by_many(const struct buffer *recording, size_t longest) {
         p25_item *item = (p25_item *)(void *)items.at;
         size_t past = (size_t)(from / 8);
         told = p25_items(recording->at + past, recording->size - past, 8 * (uint64_t)past, from, true, item, room);
-        check(told >= 0 && (size_t)told <= room, "so many items as there is room for");
+        check(told >= 0 && (size_t)told <= room, "as many items as there is capacity for");
         for (int32_t i = 0; i < told; i++) {
             p25_item same;
             char line[P25_TEXT_ROOM];
@@ -183,7 +183,7 @@ static void by_many(const struct buffer *recording, size_t longest) {
                   "one of many items");
             from = item[i].place + item[i].bits;
         }
-        check(is_whole(&items, 0, (size_t)told * sizeof *item), "nothing is written behind the items that are told");
+        check(is_whole(&items, 0, (size_t)told * sizeof *item), "nothing is written after the items");
         give_back(&items);
     } while (told > 0);
     check(from == 8 * (uint64_t)recording->size, "many at once are all items");
@@ -208,15 +208,15 @@ static void by_place(const struct buffer *recording, const struct buffer *repair
             check(bit(room.at, i) == (i < item.bits ? bit(recording->at, item.place + i) : 0), "a bit of an item");
         }
         if (item.kind == P25_UNIT) {
-            check(p25_repair_at(from, n, 8 * past, item.place, little.at, little.size) == P25_NO_ROOM && is_whole(&little, 0, 0), "little room to repair");
-            check(p25_bridge_at(from, n, 8 * past, item.place, 0x123, 2, little.at, little.size) == P25_NO_ROOM && is_whole(&little, 0, 0), "little room to bridge");
-            check(p25_repair_at(from, n, 8 * past, item.place, room.at, room.size) == (int32_t)length, "a unit repaired where it stands");
+            check(p25_repair_at(from, n, 8 * past, item.place, little.at, little.size) == P25_NO_ROOM && is_whole(&little, 0, 0), "little capacity to repair");
+            check(p25_bridge_at(from, n, 8 * past, item.place, 0x123, 2, little.at, little.size) == P25_NO_ROOM && is_whole(&little, 0, 0), "little capacity to bridge");
+            check(p25_repair_at(from, n, 8 * past, item.place, room.at, room.size) == (int32_t)length, "a unit repaired at its position");
             for (uint64_t i = 0; i < item.bits; i++) {
                 put_bit(whole, item.place + i, bit(room.at, i));
             }
             check(p25_bridge_at(from, n, 8 * past, item.place, 0x123, 2, room.at, room.size) == (int32_t)length && sent + length <= bridged->size &&
                       memcmp(room.at, bridged->at + sent, length) == 0,
-                  "a unit bridged where it stands");
+                  "a unit bridged at its position");
             sent += length;
         } else {
             check(p25_repair_at(from, n, 8 * past, item.place, little.at, 0) == P25_NO_UNIT, "no unit to repair");
@@ -287,20 +287,20 @@ static void strange_streams(void) {
                          : before.dibits > 0 ? answer == P25_DIBITS_WAIT
                                              : answer >= 0
                        : answer == P25_OUTSIDE,
-                  "what a strange stream answers to octets");
+                  "what a strange stream returns for octets");
             check(answer >= 0 || memcmp(stream, &before, sizeof before) == 0, "a stream that takes no octets stays");
             break;
         }
         case 1: {
             int32_t answer = p25_stream_push_dibits(stream, octets.at, below(101));
-            check(fits ? before.ended != 0 ? answer == P25_ENDED : answer >= 0 : answer == P25_OUTSIDE, "what a strange stream answers to dibits");
+            check(fits ? before.ended != 0 ? answer == P25_ENDED : answer >= 0 : answer == P25_OUTSIDE, "what a strange stream returns for dibits");
             check(answer >= 0 || memcmp(stream, &before, sizeof before) == 0, "a stream that takes no dibits stays");
             break;
         }
         default: {
             int32_t answer = p25_stream_next(stream, &item, (char *)text.at, below(2) * text.size);
-            check((answer == P25_OUTSIDE) == !fits, "what a strange stream answers to next");
-            check(answer == P25_ITEM || memcmp(stream, &before, sizeof before) == 0, "a stream that tells no item stays");
+            check((answer == P25_OUTSIDE) == !fits, "what a strange stream returns for next");
+            check(answer == P25_ITEM || memcmp(stream, &before, sizeof before) == 0, "a stream that returns no item stays");
         }
         }
     }
@@ -331,7 +331,7 @@ static void beginnings(void) {
     memset(stream.octets, 0, 20);
     check(p25_build("tdu nac=293", 11, 1, stream.octets, 18) == 18, "a unit in a stream that begins later");
     stream.held = 18;
-    check(p25_stream_next(&stream, &item, NULL, 0) == P25_ITEM && item.place == 8000, "its item is at its place");
+    check(p25_stream_next(&stream, &item, NULL, 0) == P25_ITEM && item.place == 8000, "its item is at its position");
     p25_caller_begin_at(&caller, 8000, false);
     check(p25_caller_take(&caller, &item, &fields, &call) == P25_NO_CALL && caller.reached == 8144, "a caller that begins later takes it");
     p25_caller_begin_at(&caller, 8001, true);
@@ -351,14 +351,14 @@ static void no_octets(void) {
     check(p25_item_octets(NULL, 0, 0, &item, NULL, 0) == 0, "an item of no bits");
     check(p25_repair(NULL, 0, NULL, 0) == P25_NO_UNIT && p25_bridge(NULL, 0, 0, 0, NULL, 0) == P25_NO_UNIT, "no octets, no unit");
     check(p25_repair_at(NULL, 0, 0, 0, NULL, 0) == P25_NO_UNIT && p25_bridge_at(NULL, 0, 0, 0, 0, 0, NULL, 0) == P25_NO_UNIT, "no octets, no unit there");
-    check(p25_build(NULL, 0, 0, NULL, 0) == P25_LINE_FORM && p25_build("tdu nac=293", 11, 0, NULL, 0) == P25_NO_ROOM, "no line, no room");
+    check(p25_build(NULL, 0, 0, NULL, 0) == P25_LINE_FORM && p25_build("tdu nac=293", 11, 0, NULL, 0) == P25_NO_ROOM, "no line, no capacity");
     check(p25_crc16(NULL, 0) == p25_crc16(into, 0) && p25_crc32(NULL, 0) == p25_crc32(into, 0), "the checks of no octets");
     p25_stream_begin(&stream);
     check(p25_stream_push(&stream, NULL, 0) == 0 && p25_stream_push_dibits(&stream, NULL, 0) == 0, "nothing is pushed");
     check(p25_stream_next(&stream, &item, NULL, 0) == P25_NONE, "a stream of nothing");
     check(p25_build("tdu nac=293", 11, 0, stream.octets, 18) == 18, "a unit in a stream");
     stream.held = 18;
-    check(p25_stream_next(&stream, &item, NULL, 0) == P25_ITEM && item.text_length == 0 && item.bits == 144, "an item without room for a text");
+    check(p25_stream_next(&stream, &item, NULL, 0) == P25_ITEM && item.text_length == 0 && item.bits == 144, "an item without capacity for a text");
 }
 
 /* Erasures of each kind, also those that a call with bool would take by their number. */
@@ -398,7 +398,7 @@ static void edges(void) {
     p25_item item = {0};
     p25_item none = {0};
     check(p25_build(line, sizeof line - 1, 1, unit, sizeof unit) == 18, "a unit");
-    check(p25_items(unit, 18, 0, 0, true, &item, 0) == 0 && item.bits == 0, "no room for items");
+    check(p25_items(unit, 18, 0, 0, true, &item, 0) == 0 && item.bits == 0, "no capacity for items");
     check(p25_items(unit, 18, 4, 8, true, &item, 1) == P25_OUTSIDE && p25_items(unit, 18, 0, 145, true, &item, 1) == P25_OUTSIDE &&
               p25_items(unit, 18, 16, 15, true, &item, 1) == P25_OUTSIDE && item.bits == 0,
           "items outside");
@@ -410,14 +410,14 @@ static void edges(void) {
     check(p25_item_octets(unit, 64, 0, &none, into, 64) == P25_OUTSIDE, "an item of too many bits");
     none.bits = UINT32_MAX;
     none.place = UINT64_MAX;
-    check(p25_item_octets(unit, 64, 0, &none, into, 64) == P25_OUTSIDE, "an item at the greatest place");
+    check(p25_item_octets(unit, 64, 0, &none, into, 64) == P25_OUTSIDE, "an item at the greatest position");
     check(p25_item_octets(unit, 17, 0, &item, into, 64) == P25_OUTSIDE && p25_item_octets(unit, 18, 8, &item, into, 64) == P25_OUTSIDE, "bits that are not there");
     check(p25_item_octets(unit, 18, 0, &item, into, 17) == P25_NO_ROOM, "an octet less than the item");
     check(p25_bridge_at(unit, 17, 1, 0, 4096, 4, into, 0) == P25_WRONG_NAC, "the access code before all else");
-    check(p25_bridge_at(unit, 17, 1, 0, 4095, 4, into, 0) == P25_WRONG_STATUS, "the status before the place");
-    check(p25_bridge_at(unit, 17, 1, 0, 4095, 3, into, 0) == P25_OUTSIDE, "the place before the unit");
-    check(p25_bridge_at(unit, 17, 0, 0, 4095, 3, into, 0) == P25_NO_UNIT, "the unit before the room");
-    check(p25_bridge_at(unit, 18, 0, 0, 4095, 3, into, 17) == P25_NO_ROOM, "room to bridge");
+    check(p25_bridge_at(unit, 17, 1, 0, 4095, 4, into, 0) == P25_WRONG_STATUS, "the status before the position");
+    check(p25_bridge_at(unit, 17, 1, 0, 4095, 3, into, 0) == P25_OUTSIDE, "the position before the unit");
+    check(p25_bridge_at(unit, 17, 0, 0, 4095, 3, into, 0) == P25_NO_UNIT, "the unit before the capacity");
+    check(p25_bridge_at(unit, 18, 0, 0, 4095, 3, into, 17) == P25_NO_ROOM, "capacity to bridge");
     check(p25_repair_at(unit, 17, 1, 0, into, 0) == P25_OUTSIDE && p25_repair_at(unit, 17, 0, 0, into, 0) == P25_NO_UNIT &&
               p25_repair_at(unit, 18, 0, 0, into, 17) == P25_NO_ROOM,
           "the refusals of a repair");

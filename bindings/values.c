@@ -339,11 +339,11 @@ static void field_edges(const room *in) {
         static const uint8_t lengths[16] = {[P25_HDU] = 99, [P25_TDU] = 18, [P25_LDU1] = 216, [P25_LDU2] = 216, [P25_TDULC] = 54};
         int32_t length = duid < 16 ? lengths[duid] : 0;
         it.duid = (uint8_t)duid;
-        check(p25_build_fields(&it, 3, in->unit, 0) == (length ? P25_NO_ROOM : P25_WRONG_DUID), "each identifier, with no room");
+        check(p25_build_fields(&it, 3, in->unit, 0) == (length ? P25_NO_ROOM : P25_WRONG_DUID), "each identifier, with no capacity");
         if (length) {
-            check(p25_build_fields(&it, 3, in->unit, (size_t)length - 1) == P25_NO_ROOM, "room for an octet less");
+            check(p25_build_fields(&it, 3, in->unit, (size_t)length - 1) == P25_NO_ROOM, "capacity for an octet less");
             check(all_are(in->unit, P25_UNIT_ROOM), "what builds no unit writes nothing");
-            check(p25_build_fields(&it, 3, in->unit, (size_t)length) == length, "room for the unit alone");
+            check(p25_build_fields(&it, 3, in->unit, (size_t)length) == length, "capacity for the unit alone");
             check(all_are(in->unit + length, P25_UNIT_ROOM - (size_t)length), "nothing is written after a unit");
             memset(in->unit, MARK, P25_UNIT_ROOM);
         }
@@ -351,10 +351,10 @@ static void field_edges(const room *in) {
     memset(in->fields, MARK, sizeof *in->fields);
     check(p25_unit_fields(in->octets, 0, 0, 0, in->fields) == P25_NO_UNIT, "no octets have no unit");
     check(p25_unit_fields(in->octets, in->n, 4, 8, in->fields) == P25_OUTSIDE, "a beginning inside an octet");
-    check(p25_unit_fields(in->octets, in->n, 0, 8 * in->n + 1, in->fields) == P25_OUTSIDE, "a place after the octets");
-    check(p25_unit_fields(in->octets, in->n, 16, 15, in->fields) == P25_OUTSIDE, "a place before the octets");
-    check(p25_unit_fields(in->octets, in->n, UINT64_MAX - 7, UINT64_MAX, in->fields) == P25_OUTSIDE, "the greatest place");
-    check(all_are(in->fields, sizeof *in->fields), "what tells no fields writes nothing");
+    check(p25_unit_fields(in->octets, in->n, 0, 8 * in->n + 1, in->fields) == P25_OUTSIDE, "a position after the octets");
+    check(p25_unit_fields(in->octets, in->n, 16, 15, in->fields) == P25_OUTSIDE, "a position before the octets");
+    check(p25_unit_fields(in->octets, in->n, UINT64_MAX - 7, UINT64_MAX, in->fields) == P25_OUTSIDE, "the greatest position");
+    check(all_are(in->fields, sizeof *in->fields), "a call that returns no fields writes nothing");
 }
 
 /* Checks the packets that are refused, and that nothing is written then. */
@@ -365,7 +365,7 @@ static void packet_edges(const room *in) {
     check(p25_packet_read(in->octets, in->n, 0, 8 * in->n, it) == P25_NO_UNIT, "no packet at the end");
     check(p25_packet_read(in->octets, in->n, 4, 8, it) == P25_OUTSIDE, "a packet that begins inside an octet");
     check(p25_packet_read(in->octets, in->n, 0, 8 * in->n + 1, it) == P25_OUTSIDE, "a packet after the octets");
-    check(all_are(it, sizeof *it), "what tells no packet writes nothing");
+    check(all_are(it, sizeof *it), "a call that returns no packet writes nothing");
     memset(in->unit, MARK, P25_UNIT_ROOM);
     memset(it, 0, sizeof *it);
     it->nac = 4096;
@@ -386,8 +386,8 @@ static void packet_edges(const room *in) {
         check(p25_build_packet(it, 3, in->unit, P25_UNIT_ROOM) == P25_WRONG_PACKET, "a serial number above 127");
         it->serials[j] = 127;
     }
-    check(p25_build_packet(it, 3, in->unit, P25_UNIT_ROOM - 1) == P25_NO_ROOM, "room for an octet less than the longest unit");
-    check(all_are(in->unit, P25_UNIT_ROOM), "what builds no packet writes nothing");
+    check(p25_build_packet(it, 3, in->unit, P25_UNIT_ROOM - 1) == P25_NO_ROOM, "capacity for an octet less than the longest unit");
+    check(all_are(in->unit, P25_UNIT_ROOM), "a call that builds no packet writes nothing");
     check(p25_build_packet(it, 3, in->unit, P25_UNIT_ROOM) == P25_UNIT_ROOM, "the longest unit");
 }
 
@@ -405,24 +405,24 @@ static void caller_edges(const room *in) {
     check(memcmp(in->caller, &before, sizeof before) == 0, "it stays as it is");
     p25_caller_begin(in->caller);
     item.place = 1;
-    check(p25_caller_take(in->caller, &item, &fields, in->call) == P25_OUTSIDE, "a first item that is not at place 0");
+    check(p25_caller_take(in->caller, &item, &fields, in->call) == P25_OUTSIDE, "a first item that is not at position 0");
     item.place = 0;
     check(p25_caller_take(in->caller, &item, &fields, in->call) == P25_NO_CALL, "a broken LDU1 opens a call");
     check(p25_caller_take(in->caller, &item, &fields, in->call) == P25_OUTSIDE, "an item is not taken twice");
-    check(all_are(in->call, sizeof *in->call), "where no call ends nothing is written");
+    check(all_are(in->call, sizeof *in->call), "nothing is written if no call ends");
     item.place = 1728;
     item.duid = P25_TDU;
     item.bits = 144;
     check(p25_caller_take(in->caller, &item, &fields, in->call) == P25_CALL, "a terminator ends it");
     check(in->call->place == 0 && in->call->bits == 1872 && in->call->end == P25_END_TDU && in->call->late == 1 && in->call->links == 1 &&
               in->call->broken == 2 && in->call->has_lc == 0 && in->call->has_algid == 0,
-          "what is told of it");
+          "the values of the call");
     in->caller->taken = UINT32_MAX;
     item.place = 1872;
     check(p25_caller_take(in->caller, &item, &fields, in->call) == P25_OUTSIDE, "the last item that is counted");
     in->caller->taken = 0;
     in->caller->reached = item.place = (uint64_t)1 << 60;
-    check(p25_caller_take(in->caller, &item, &fields, in->call) == P25_OUTSIDE, "a place at 2^60");
+    check(p25_caller_take(in->caller, &item, &fields, in->call) == P25_OUTSIDE, "a position at 2^60");
 }
 
 /* Makes one kind of calls in buffers that end and that begin at a guard, and prints the first output if the second is the same. */

@@ -10,7 +10,7 @@ BITS_A_SECOND = 9600
 LENGTHS = {"hdu": 792, "ldu1": 1728, "ldu2": 1728, "tdu": 144, "tdulc": 432}
 # The bits of a unit that are examined: its sync, 63 bits of its NID, and its codewords.
 LOOKED_AT = {"hdu": 759, "ldu1": 383, "ldu2": 383, "tdu": 111, "tdulc": 399}
-# Of a packet these first bits, and those of its header and of each block.
+# The same for a packet: its first bits, and those of its header and of each block.
 LOOKED_AT_PACKET, LOOKED_AT_BLOCK = 111, 196
 # The types of units by their DUIDs.
 KINDS = {"0": "hdu", "3": "tdu", "5": "ldu1", "a": "ldu2", "c": "packet", "f": "tdulc"}

@@ -35,20 +35,20 @@ def recordings_probed():
         yield 'an end of %d bits' % pause, bits('tdulc') + '0' * pause
         yield 'a beginning of %d bits' % pause, '0' * pause + bits('hdu') + voice[0]
     for wrong in range(3, 7):
-        yield 'a sync with %d wrong bits' % wrong, with_front(bits('tdu'), wrong, 0)
-        yield 'a sync after a header with %d wrong bits' % wrong, bits('hdu') + with_front(voice[0], wrong, 0) + bits('tdu')
+        yield 'a sync with %d bit errors' % wrong, with_front(bits('tdu'), wrong, 0)
+        yield 'a sync after a header with %d bit errors' % wrong, bits('hdu') + with_front(voice[0], wrong, 0) + bits('tdu')
     for wrong in range(10, 20):
         for of_sync in (0, 4, 5, 30 - wrong, 31 - wrong):
             there = with_front(voice[0], of_sync, wrong)
-            yield 'a front with %d and %d wrong bits' % (of_sync, wrong), bits('hdu') + there + voice[1]
-            yield 'a front with %d and %d wrong bits, and no more' % (of_sync, wrong), bits('hdu') + there
+            yield 'a sync and an NID with %d and %d bit errors' % (of_sync, wrong), bits('hdu') + there + voice[1]
+            yield 'a sync and an NID with %d and %d bit errors, and no more' % (of_sync, wrong), bits('hdu') + there
     for lost in range(1, 6):
         gone = ''.join(flipped(unit, range(0, 114, 2)) for unit in voice[:lost])
         for name, then in (('a voice unit', voice[lost]), ('a voice unit of another network', bits('ldu%d' % (lost % 2 + 1), '294')), ('a header', bits('hdu')),
                            ('the other voice unit', voice[lost + 1]), ('a terminator', bits('tdulc')), ('a far terminator', with_front(bits('tdu'), 14, 16)),
                            ('nothing', ''), ('an octet', '0' * 8), ('a cut terminator', bits('tdulc')[:-8]),
                            ('a cut voice unit', voice[lost][:1000]), ('a cut voice unit with a lost sync', with_front(voice[lost], 5, 0)[:1720])):
-            yield '%d lost fronts, and then %s' % (lost, name), bits('hdu') + gone + then
+            yield '%d lost syncs with NID, and then %s' % (lost, name), bits('hdu') + gone + then
     for kind in ('hdu', 'ldu1', 'ldu2', 'tdu', 'tdulc'):
         for other in ('hdu', 'ldu1', 'ldu2', 'tdu', 'tdulc'):
             there = with_front(bits(other), 5, 0)
@@ -65,9 +65,9 @@ def recordings_probed():
     inner = recordings.front(0x293, 0)
     for place in (200, 1000, 1500, 1610, 1616, 1700):
         cut = there[:place] + inner[:70] + '11' + inner[70:]
-        yield 'a front at bit %d of a unit whose sync is lost' % place, bits('hdu') + cut[:1728].ljust(1728, '0')
+        yield 'a sync and an NID at bit %d of a unit whose sync is lost' % place, bits('hdu') + cut[:1728].ljust(1728, '0')
         found = with_front(voice[0], 20, 20)[:place] + inner[:48]
-        yield 'a sync at bit %d of a unit whose front is lost' % place, bits('hdu') + found.ljust(1728, '0') + voice[1]
+        yield 'a sync at bit %d of a unit whose sync and NID are lost' % place, bits('hdu') + found.ljust(1728, '0') + voice[1]
     after = there + with_front(voice[1], 5, 0) + with_front(bits('tdulc'), 5, 0)
     for kind in ('hdu', 'ldu1', 'ldu2', 'tdulc'):
         yield 'a broken %s and lost syncs' % kind, flipped(bits(kind), range(114, len(bits(kind)), 2)) + after
@@ -90,7 +90,7 @@ def answers_probed(lines, words):
     for word in words:
         there = recordings.unit_bits((kind, [nac, '23%02x' % word + head[4:], flags]), 0)
         places = ','.join(str(place) for place in range(len(here)) if here[place] != there[place])
-        yield 'an answer whose octet 1 is %02x, after %s' % (word, lines[-2].split()[0]), 'stations', lines + ['deliver answer ' + (places or '-')]
+        yield 'a response whose octet 1 is %02x, after %s' % (word, lines[-2].split()[0]), 'stations', lines + ['deliver answer ' + (places or '-')]
 
 
 def scripts_probed():
@@ -117,7 +117,7 @@ def scripts_probed():
             places = list(range(9000, 9000 + short)) + list(range(10000, 10000 + (room - 5 * short) // 6))
             line = 'deliver %s %s' % (way, ','.join(map(str, places)))
             assert len(line) == size
-            yield 'places in a line of %d octets' % size, kind, [line, line]
+            yield 'positions in a line of %d octets' % size, kind, [line, line]
             yield 'a line of %d octets and a longer one' % size, kind, [line, line + ',25000']
         for places in ('25919', '25920', '0', '00', '01', '1,1', '2,1', '0,1', '-', '1,', ',1', '0-3'):
             yield 'places ' + places, kind, ['deliver %s %s' % (way, places)]

@@ -20,14 +20,14 @@ static uint64_t nanoseconds(void) {
     return (uint64_t)now.tv_sec * 1000000000u + (uint64_t)now.tv_nsec;
 }
 
-/* How many symbols are erased, how many more are wrong, and the name of the case. */
+/* The number of erased symbols, of more wrong symbols, and the name of the case. */
 struct row {
     int marks;
     int wrong;
     const char *label;
 };
 
-/* Of the codes (36,20), (24,12) and (24,16), and of NIDs. */
+/* The cases of the codes (36,20), (24,12) and (24,16), and of NIDs. */
 static const struct row symbol_rows[3][9] = {
     {{0, 0, "0"}, {0, 1, "1"}, {0, 4, "4"}, {0, 8, "8, the radius"}, {0, 9, "9, beyond"},
      {1, 0, "1 erased"}, {8, 0, "8 erased"}, {8, 4, "8 erased, 4 more"}, {16, 0, "16 erased"}},

@@ -35,7 +35,7 @@ text() {
         passed=$((passed + 1))
     else
         failed=$((failed + 1))
-        printf 'failed: %s\n  wanted: %s\n  got:    %s\n' "$1" "$3" "$2"
+        printf 'failed: %s\n  expected: %s\n  got:      %s\n' "$1" "$3" "$2"
     fi
 }
 
@@ -61,7 +61,7 @@ ended() {
 # Ends with a message on standard error if the program is not proved, because a trial build takes half a minute for each call.
 want_program() {
     [ -z "$(p25 show </dev/null 2>&1)" ] && return
-    echo "$1: the proved program is wanted: ./prove makes it" >&2
+    echo "$1: the proved program is needed: ./prove makes it" >&2
     exit 1
 }
 

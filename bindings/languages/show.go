@@ -2,7 +2,7 @@
 //
 //	go build -o show bindings/languages/show.go
 //
-// If the library is installed, `#cgo pkg-config: p25` takes the place of the two lines of #cgo.
+// If the library is installed, `#cgo pkg-config: p25` replaces the two lines of #cgo.
 package main
 
 /*

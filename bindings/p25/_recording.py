@@ -23,14 +23,14 @@ FAULTS = {number: cause.value for number, cause in CAUSES.items() if number <= -
 
 
 class Kind(enum.IntEnum):
-    """What an item is."""
+    """The kind of an item."""
 
     UNIT = _calls.UNIT
     """A whole data unit."""
     BROKEN = _calls.BROKEN
     """A data unit of which some fields fail."""
     NOUNIT = _calls.NOUNIT
-    """A sync after which no data unit is read; one bit."""
+    """A sync after which no data unit decodes; one bit."""
     GAP = _calls.GAP
     """Bits with which no sync begins, at most 4,096."""
     CUT = _calls.CUT
@@ -38,7 +38,7 @@ class Kind(enum.IntEnum):
 
 
 class Duid(enum.IntEnum):
-    """The data unit identifiers (DUID) that are read."""
+    """The data unit identifiers (DUID) that are decoded."""
 
     HDU = _calls.HDU
     """A header."""
@@ -80,17 +80,17 @@ class Item(_Draft):
     __slots__ = ()
 
     kind_id: Kind
-    """What it is, as a number with a name."""
+    """The kind of the item, as a number with a name."""
     place: int
     """The bit of the recording at which it begins."""
     bits: int
-    """How many bits it covers, at least 1."""
+    """The number of its bits, at least 1."""
     fixes: int
-    """Of a unit how many of the bits that are looked at were wrong; else 0."""
+    """The number of bit errors in the examined bits of a unit; else 0."""
     nac: Optional[int]
-    """Of a unit or a broken one the network access code (NAC), 0 to 4095; else None."""
+    """The network access code (NAC) of a whole or broken unit, 0 to 4095; else None."""
     duid: Optional[int]
-    """Of a unit or a broken one the data unit identifier (DUID), 0 to 15, a Duid where it is one that is read; else None."""
+    """The data unit identifier (DUID), 0 to 15, of a whole or broken unit, a Duid if it is one that is decoded; else None."""
     _octets: bytes
     _text: Optional[str]
 

@@ -17,7 +17,7 @@ class LinkKind(enum.IntEnum):
     """The type of link control (LC), by its first octet."""
 
     OTHER = _calls.LINK_OTHER
-    """All else, which is not interpreted."""
+    """Any other type, which is not interpreted."""
     GROUP = _calls.LINK_GROUP
     """A call to a group (00 hex)."""
     INDIVIDUAL = _calls.LINK_INDIVIDUAL
@@ -25,7 +25,7 @@ class LinkKind(enum.IntEnum):
 
 
 class CallEnd(enum.IntEnum):
-    """How a call ends."""
+    """The end of a call."""
 
     OPEN = _calls.END_OPEN
     """Without a terminator."""
@@ -41,17 +41,17 @@ class LinkControl(NamedTuple):
     octets: bytes
     """The nine octets."""
     kind: LinkKind
-    """What it is of."""
+    """The type."""
     mfid: Optional[int] = None
     """The manufacturer (MFID)."""
     source: Optional[int] = None
     """The unit that speaks, 24 bits."""
     group: Optional[int] = None
-    """The group of a call to one."""
+    """The group of a group call."""
     destination: Optional[int] = None
-    """The unit that is called by another, 24 bits."""
+    """The called unit of a call from unit to unit, 24 bits."""
     emergency: bool = False
-    """Whether a call to a group is an emergency."""
+    """True if a call to a group is an emergency."""
 
 
 class Fields(NamedTuple):
@@ -86,17 +86,17 @@ class Call(NamedTuple):
     place: int
     """The bit at which its first unit begins."""
     bits: int
-    """How many bits there are from there to the end of its last unit."""
+    """The number of bits from there to the end of its last unit."""
     nac: int
     """The network access code (NAC) of its units."""
     late: bool
-    """Whether it begins without a header (HDU)."""
+    """True if it begins without a header (HDU)."""
     end: CallEnd
-    """How it ends."""
+    """Its end."""
     links: int
-    """How many units of voice it has (LDU1 or LDU2)."""
+    """The number of its voice units (LDU1 or LDU2)."""
     broken: int
-    """How many of its units are broken."""
+    """The number of its broken units."""
     lc: Optional[bytes]
     """The link control (LC) of the first whole unit that carries one, nine octets."""
     algid: Optional[int]
@@ -130,21 +130,21 @@ class Packet(NamedTuple):
     llid: int
     """The logical link identifier (LLID), 24 bits."""
     syn: bool
-    """The first bit of octet 8 of the header, whatever the format: of a confirmed packet the flag Syn."""
+    """The first bit of octet 8 of the header, in every format; in a confirmed packet it is the flag Syn."""
     number: int
-    """The next three bits of octet 8, whatever the format: of a confirmed packet N(S)."""
+    """The next three bits of octet 8, in every format; in a confirmed packet they are N(S)."""
     response_class: int
-    """The first two bits of octet 1 of the header, whatever the format: of a response its class."""
+    """The first two bits of octet 1 of the header, in every format; in a response they are its class."""
     response_type: int
-    """The next three bits of octet 1, whatever the format: of a response its type."""
+    """The next three bits of octet 1, in every format; in a response they are its type."""
     response_status: int
-    """The last three bits of octet 1, whatever the format: of a response its status."""
+    """The last three bits of octet 1, in every format; in a response they are its status."""
     good: Tuple[bool, ...]
-    """Of a confirmed packet for each block whether its check agrees."""
+    """For each block of a confirmed packet, true if its check agrees."""
     serials: Tuple[int, ...]
-    """Of a confirmed packet for each block its serial number, 0 where its check does not agree."""
+    """The serial number of each block of a confirmed packet, 0 if its check does not agree."""
     data: bytes
-    """Of a confirmed packet 16 octets for each block, zeros where its check does not agree; of another the octets before the packet CRC."""
+    """The octets: for a confirmed packet 16 for each block, zeros if its check does not agree; for another those before the packet CRC."""
 
 
 _link_read = call("p25_link_read")
@@ -230,8 +230,8 @@ def _written(function: Any, given: ctypes.Structure, status: int) -> bytes:
 
 
 def build_fields(fields: Fields, status: int = 0) -> bytes:
-    """Returns the octets of the voice unit of fields, with all status symbols `status`, 0 to 3. Its `duid` determines which fields are used; one that is None
-    is of zeros. Error has the cause nac, status, length, or duid if no voice unit has it."""
+    """Returns the octets of the voice unit of fields, with all status symbols `status`, 0 to 3. Its `duid` determines which fields are used; a field that is
+    None becomes zeros. Error has the cause nac, status, length, or duid if no voice unit has it."""
     given = FieldParts(nac=number_of(fields.nac, 4095, Cause.NAC), duid=number_of(fields.duid, 15, Cause.DUID))
     for name, most in (("kid", 65535), ("tgid", 65535), ("mfid", 255), ("algid", 255)):
         setattr(given, name, number_of(getattr(fields, name) or 0, most, Cause.VALUE))

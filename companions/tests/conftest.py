@@ -109,7 +109,7 @@ def mixed(tmp_path_factory):
 
 def pytest_sessionstart(session):
     if shutil.which("p25") is None or subprocess.run(["p25", "show"], input=b"", capture_output=True).stderr:
-        pytest.exit("the proved program is wanted: ./prove makes it", 1)
+        pytest.exit("the proved program is needed: ./prove makes it", 1)
 
 
 def need(*names):

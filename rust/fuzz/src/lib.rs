@@ -58,7 +58,7 @@ fn try_unit(frame: &Frame) {
     let mut line = Line::new();
     unit_text(&frame.unit, &mut line);
     let again = read_line(line.octets());
-    assert!(again == Ok(frame.unit.clone()), "the text of a unit is read as the unit");
+    assert!(again == Ok(frame.unit.clone()), "the text of a unit builds the unit");
     let mut bits = BitBuf::new();
     image(&Frame::filled(frame.unit.clone(), Status::new(1).unwrap_or_default()), &mut bits);
     let mut scanner = Scanner::new();
@@ -71,7 +71,7 @@ fn try_unit(frame: &Frame) {
     }
     scanner.finish();
     let found = scanner.next_item();
-    assert!(matches!(&found, Some(Item::Whole { frame: sent, .. }) if sent.unit == frame.unit), "the bits of a unit are read as the unit");
+    assert!(matches!(&found, Some(Item::Whole { frame: sent, .. }) if sent.unit == frame.unit), "the bits of a unit decode to the unit");
 }
 
 // Returns the positions of the items of a recording, how many bits they cover, and whether they are whole units.
