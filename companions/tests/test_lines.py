@@ -8,6 +8,7 @@ import re
 import resource
 import signal
 import subprocess
+import threading
 import time
 
 import pytest
@@ -320,6 +321,40 @@ def test_split_live(room, before):
     run.send_signal(signal.SIGINT)
     rest = run.communicate()[0]
     assert (run.returncode, rest.split(b"\n")[-2].split(b" ")[0]) == (130, b"cut")
+
+
+def goes_on(run, chunk):
+    """Writes input to a program without a pause, until the program takes no more."""
+    try:
+        while True:
+            run.stdin.write(chunk)
+            time.sleep(0.01)
+    except OSError:
+        pass
+
+
+def catches(run, number):
+    """Returns whether a process catches a signal."""
+    with open(f"/proc/{run.pid}/status", encoding="ascii") as status:
+        return int(re.search("SigCgt:\t([0-9a-f]+)", status.read())[1], 16) >> number - 1 & 1
+
+
+@pytest.mark.parametrize("command", ["p25-split -", "p25-record day", "p25-talkers", "p25-rate"])
+def test_an_end_does_not_wait_for_a_receiver_that_goes_on(room, command):
+    """An input without a pause does not delay the end that is asked for."""
+    chunk = 50 * b"gap at=0 bits=4096\n" if command in ("p25-talkers", "p25-rate") else bytes(4096)
+    run = subprocess.Popen(command.split(), cwd=room.path, stdin=subprocess.PIPE, stdout=subprocess.DEVNULL, bufsize=0)
+    threading.Thread(target=goes_on, args=(run, chunk), daemon=True).start()
+    while not catches(run, signal.SIGTERM):
+        time.sleep(0.01)
+    run.send_signal(signal.SIGTERM)
+    try:
+        assert run.wait(timeout=60) == 143
+    finally:
+        run.kill()
+    if command == "p25-record day":
+        # It ended as it should: nothing is left to go on with.
+        assert not (room.path / "day" / "recorder.json").exists()
 
 
 def test_split_of_what_is_longer_than_p25_reads(room):
