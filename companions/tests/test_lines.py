@@ -341,7 +341,7 @@ def catches(run, number):
 
 @pytest.mark.parametrize("command", ["p25-split -", "p25-record day", "p25-talkers", "p25-rate"])
 def test_an_end_does_not_wait_for_a_receiver_that_goes_on(room, command):
-    """An input without a pause does not delay the end that is asked for."""
+    """Shows that SIGTERM ends a script while its input goes on without a pause."""
     chunk = 50 * b"gap at=0 bits=4096\n" if command in ("p25-talkers", "p25-rate") else bytes(4096)
     run = subprocess.Popen(command.split(), cwd=room.path, stdin=subprocess.PIPE, stdout=subprocess.DEVNULL, bufsize=0)
     threading.Thread(target=goes_on, args=(run, chunk), daemon=True).start()
