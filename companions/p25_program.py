@@ -47,6 +47,8 @@ of NAMES serves as a number does.
 """
 # A pipe was silent if nothing came in it for this many seconds.
 SILENCE = 1.0
+# A script reads an input without pauses for this many seconds after the signal: octets of a receiver, or lines of a program that got the signal too.
+LAST_OCTETS, LAST_LINES = 2.0, 5.0
 
 
 def one_line(text):
@@ -352,6 +354,7 @@ class Script(argparse.ArgumentParser):
         super().__init__(prog=name, add_help=False, allow_abbrev=False)
         self.name, self.text, self.shared = name, text, ""
         self.caught = 0    # the signal that ends the script
+        self.asked = 0.0    # the time of this signal
         self.number = 0    # the last line that was read
         if sys.stdout is None:
             self.fail(4, "the output cannot be written: it is closed")
@@ -506,6 +509,8 @@ class Script(argparse.ArgumentParser):
         os.set_blocking(waked, False)
 
         def note(number, _frame):
+            if not self.caught:
+                self.asked = time.monotonic()
             self.caught = number
             try:
                 os.write(waked, b"x")
@@ -516,6 +521,12 @@ class Script(argparse.ArgumentParser):
             if signal.getsignal(number) != signal.SIG_IGN:
                 signal.signal(number, note)
         return wake
+
+    def is_over(self, source, silence, last):
+        """Returns whether a signal came, and after it no input for some seconds, or input until the last second."""
+        if not self.caught:
+            return False
+        return time.monotonic() > self.asked + last or not select.select([source], [], [], silence)[0]
 
     def read(self, source, count):
         """Reads octets."""
@@ -533,7 +544,7 @@ class Script(argparse.ArgumentParser):
     def lines(self, arrived=lambda lines: None):
         """Yields the lines of standard input as they come; `arrived` gets those that came together.
 
-        An interrupt or SIGTERM ends them, once nothing comes for half a second.
+        An interrupt or SIGTERM ends them after half a second without a line, and after five seconds in any case.
         """
         self.wants_input()
         wake = self.catch()
@@ -543,7 +554,7 @@ class Script(argparse.ArgumentParser):
                 ready = select.select([0, wake], [], [])[0]
                 if wake in ready:
                     continue
-            elif not select.select([0], [], [], 0.5)[0]:
+            elif self.is_over(0, 0.5, LAST_LINES):
                 break
             chunk = self.read(0, 262144)
             if not chunk:

@@ -235,3 +235,13 @@ def test_page_of_a_folder(room):
     assert room.run("p25-page --begin 2026-11-28T08:00:00Z day")[0] == 2
     (room.path / "empty").mkdir()
     assert room.run("p25-page empty")[2].startswith("p25-page: 'empty' has no recording with a time in its name")
+
+
+def test_calls_of_one_name_are_files_of_their_own(room):
+    """Bits that come so fast that all calls have one time: the second call of a radio to a group has a number."""
+    room.put("twice.bin", 2 * SAMPLES["traffic.bin"].read_bytes())
+    room.octets("p25-record --calls --rate 9999999999 day < twice.bin")
+    names = sorted(re.sub("^[0-9TZ.]+-", "", path.name) for path in (room.path / "day" / "calls").glob("*.bin"))
+    base = ["nac293-group100-from4097", "nac293-group200-from4098", "nac293-radio4100-from4099", "nac2a1-group100-from4097"]
+    assert names == sorted(f"{it}{number}.bin" for it in base for number in ("", "-2"))
+    assert len(list((room.path / "day" / "calls").glob("*.json"))) == 8

@@ -5,9 +5,9 @@ import json
 import math
 import os
 import re
-import resource
 import signal
 import subprocess
+import threading
 import time
 
 import pytest
@@ -322,6 +322,40 @@ def test_split_live(room, before):
     assert (run.returncode, rest.split(b"\n")[-2].split(b" ")[0]) == (130, b"cut")
 
 
+def goes_on(run, chunk):
+    """Writes input to a program without a pause, until the program takes no more."""
+    try:
+        while True:
+            run.stdin.write(chunk)
+            time.sleep(0.01)
+    except OSError:
+        pass
+
+
+def catches(run, number):
+    """Returns whether a process catches a signal."""
+    with open(f"/proc/{run.pid}/status", encoding="ascii") as status:
+        return int(re.search("SigCgt:\t([0-9a-f]+)", status.read())[1], 16) >> number - 1 & 1
+
+
+@pytest.mark.parametrize("command", ["p25-split -", "p25-record day", "p25-talkers", "p25-rate"])
+def test_an_end_does_not_wait_for_a_receiver_that_goes_on(room, command):
+    """Shows that SIGTERM ends a script while its input goes on without a pause."""
+    chunk = 50 * b"gap at=0 bits=4096\n" if command in ("p25-talkers", "p25-rate") else bytes(4096)
+    run = subprocess.Popen(command.split(), cwd=room.path, stdin=subprocess.PIPE, stdout=subprocess.DEVNULL, bufsize=0)
+    threading.Thread(target=goes_on, args=(run, chunk), daemon=True).start()
+    while not catches(run, signal.SIGTERM):
+        time.sleep(0.01)
+    run.send_signal(signal.SIGTERM)
+    try:
+        assert run.wait(timeout=60) == 143
+    finally:
+        run.kill()
+    if command == "p25-record day":
+        # It ended as it should: nothing is left to go on with.
+        assert not (room.path / "day" / "recorder.json").exists()
+
+
 def test_split_of_what_is_longer_than_p25_reads(room):
     room.put("long.bin", 4000 * CALLS)
     assert room.run("p25 show < long.bin | tail -n 1")[2] == "input too long\n"
@@ -340,15 +374,23 @@ def test_split_of_what_is_longer_than_p25_reads(room):
     assert calls[-2].split()[1:3] == [f"at={3999 * 8 * len(CALLS) + 37728}", "bits=8136"]
 
 
+# Prints the CPU seconds of a command, and the memory of its largest process in kilobytes. (Measured from pytest that includes pytest's own memory.)
+MEASURE = """\
+import resource, subprocess, sys
+subprocess.run(["sh", "-c", sys.argv[1]], check=True)
+usage = resource.getrusage(resource.RUSAGE_CHILDREN)
+print(usage.ru_utime + usage.ru_stime, usage.ru_maxrss)
+"""
+
+
 def test_a_day_takes_a_minute_and_100_mb(room):
     """Checks that a twentieth of a day takes at most six times a twentieth of a CPU minute, and at most 100 MB."""
     room.put("some.bin", 900 * CALLS)
-    before = os.times()
-    room.octets("p25-split some.bin > lines; p25-talkers -c < lines > talkers")
-    after = os.times()
+    room.put("measure.py", MEASURE)
+    seconds, kilobytes = room.text("python3 measure.py 'p25-split some.bin > lines && p25-talkers -c < lines > talkers'").split()
     assert room.get("talkers").count(b"\n") == 3601
-    assert after.children_user + after.children_system - before.children_user - before.children_system <= 60 * 900 * 4.8 / 86400 * 6
-    assert resource.getrusage(resource.RUSAGE_CHILDREN).ru_maxrss < 100000
+    assert float(seconds) <= 60 * 900 * 4.8 / 86400 * 6
+    assert int(kilobytes) < 100000
 
 
 # -- The results for all samples.
