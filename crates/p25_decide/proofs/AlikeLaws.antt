@@ -1,13 +1,13 @@
 -- Changes that are alike for all items from a position on change the same stretches and items there to the same bits: by induction on the units, which
 -- start there, and on the items.
-use Rattle.std.proofs.Common.{◌≡◌, ℕ, zero, suc, ◌+◌, ◌-◌, ◌<◌, ◌≤◌, Bool, true, false, cond, inl, inr, List, [], ◌∷◌, ◌++◌, length, take, drop, Option, Some, None, refl, ap, ap₂, sym, subst, ◌∙◌, arith, length-append, length-drop}
+use Rattle.std.proofs.Common.{◌≡◌, ℕ, zero, suc, ◌+◌, ◌-◌, ◌≤◌, Bool, cond, inl, inr, List, [], ◌∷◌, ◌++◌, length, take, drop, Option, Some, None, refl, ap, ap₂, sym, arith}
 use Rattle.std.proofs.lemmas.Bool.{cases_Bool, cases_lt}
 use Rattle.p25_units.specs.{Items.{covered, place_of}, declared.item.Item.{Item}}
 use Rattle.p25_units.proofs.ItemsLaws.{place_of-unit_item_of}
 use Rattle.p25_stream.specs.Items.{items_by}
 use Rattle.p25_stream.proofs.ItemsLaws.{items_by-first, place_of-first_item}
 use Rattle.p25_follow.specs.{Chains.{chain_of, settled_of, with_front}, Expected.{kind_length}, Followed.{is_rest, unit_name}, FollowedUnits.{written_units}}
-use Rattle.p25_follow.specs.{Following.{Follow, behind_item, follow, left_of}, Steps.{step_of}}
+use Rattle.p25_follow.specs.{Following.{Follow, behind_item}, Steps.{step_of}}
 use Rattle.p25_follow.proofs.{ChainLaws.{along-chain}, WrittenUnitsLaws.{written-step, written-stop}}
 use Rattle.p25_decide.specs.{DecidedFollowing.{before_item, changed_by, own_item, settled_over, settled_units_in}, DecidedStretches.{chain_over, over_units}}
 use Rattle.p25_decide.proofs.SettledLaws.{length-settled, unit_at, units-next, units-none, units-short, units-stop}

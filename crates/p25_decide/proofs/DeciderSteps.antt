@@ -1,7 +1,7 @@
 -- What a follower settles, and what is written of it with its units changed, by the state of the follower.
-use Rattle.std.proofs.Common.{◌≡◌, ℕ, ◌+◌, ◌≤◌, Bool, true, false, List, ◌++◌, length, Option, None, refl, ap, ap₂, sym, ◌∙◌, arith}
+use Rattle.std.proofs.Common.{◌≡◌, ℕ, ◌≤◌, Bool, true, false, List, ◌++◌, length, Option, None, refl, ap, ap₂, ◌∙◌, arith}
 use Rattle.p25_units.specs.declared.item.Item.{Item}
-use Rattle.p25_follow.specs.{Chains.{chain_by}, Followed.{is_rest, unit_name}, Following.{Follow, behind_item, follow, written_before, written_end}}
+use Rattle.p25_follow.specs.{Chains.{chain_by}, Followed.{is_rest, unit_name}, Following.{Follow, behind_item, written_before, written_end}}
 use Rattle.p25_follow.proofs.LengthLaws.{length-chain_of}
 use Rattle.p25_decide.specs.{DecidedFollowing.{before_item, settled_over}, DecidedStretches.{chain_over}, DecidedTaking.{over_by}}
 use Rattle.p25_decide.proofs.SettledLaws.{length-settled}

@@ -1,19 +1,18 @@
 -- A stretch decided unit by unit: what is written so far together with what is still to be written is always the same. The soft symbols of a unit are
 -- those at its position, wherever those that are held begin.
-use Rattle.std.proofs.Common.{◌≡◌, ◌≢◌, ℕ, ◌+◌, ◌*◌, ◌/◌, ◌%◌, ◌<◌, ◌≤◌, ◌||◌, Bool, true, false, cond, nat_le, inl, inr, List, [], ◌∷◌, ◌++◌, length, take, drop, Option, Some, None, refl, ap, ap₂, sym, subst, ◌∙◌, arith, append_assoc, length-append, length-drop, ℤ}
-use Rattle.std.proofs.lemmas.{Bool.{cases_Bool, cases_lt, le-leb, leb-true, ne_eqb}, List.{length-take-le, drop_at, take_at, drop-drop}}
-use Rattle.std.specs.Prelude.{nat_eq}
+use Rattle.std.proofs.Common.{◌≡◌, ◌≢◌, ℕ, ◌+◌, ◌*◌, ◌/◌, ◌%◌, ◌≤◌, ◌||◌, Bool, true, false, nat_le, inl, inr, List, [], ◌++◌, length, take, drop, Option, Some, None, refl, ap, ap₂, sym, ◌∙◌, arith, append_assoc, length-append, ℤ}
+use Rattle.std.proofs.lemmas.{Bool.{cases_Bool, cases_lt, le-leb, leb-true, ne_eqb}, List.{length-take-le, drop_at, take_at}}
 use Rattle.p25_bits.specs.Bits.{part}
 use Rattle.p25_bits.proofs.PartLaws.{part-part}
-use Rattle.p25_units.specs.{Items.{covered, place_of, unit_item_of}, Units.{body_duid}, declared.item.Item.{Item}, declared.item.Item.TheVariants.{Whole, Broken}}
+use Rattle.p25_units.specs.{Units.{body_duid}, declared.item.Item.{Item}, declared.item.Item.TheVariants.{Whole, Broken}}
 use Rattle.p25_units.proofs.{NeedsLaws.{voice-other}, UnitsLaws.{IsSentLength-voice}}
 use Rattle.p25_follow.specs.{Chains.{chain_by, with_front}, Expected.{kind_length}, Followed.{unit_name}, Steps.{step_of}}
 use Rattle.p25_follow.proofs.{AfterUnitLaws.{Sound, sound-some}, ChainLaws.{chain_by-none, chain_by-step, chain_by-stop, chain_by-waits}, FoundLaws.{IsVoice-kind, written-found}}
 use Rattle.p25_follow.proofs.StepLaws.{step_of-end, step_of-there}
-use Rattle.p25_decide.specs.{DecidedFollowing.{settled_over}, DecidedRecordings.{item_decided, unit_decided}, DecidedStretches.{chain_over}, DecidedUnits.{decided_sent}}
+use Rattle.p25_decide.specs.{DecidedRecordings.{item_decided, unit_decided}, DecidedUnits.{decided_sent}}
 use Rattle.p25_decide.specs.DecidedTaking.{AreFrom, over_by, over_left, settled_kind, voice_decided}
 use Rattle.p25_decide.proofs.UnitHeardLaws.{HasVoiceLength, has-length}
-use Rattle.p25_decide.proofs.SettledLaws.{IsUnit, chain-next, chain-none, chain-stops, is-unit, settled-next, settled-none, settled-stops, settled-waits, unit_at}
+use Rattle.p25_decide.proofs.SettledLaws.{chain-next, chain-none, chain-stops, is-unit, settled-next, settled-none, settled-stops, settled-waits, unit_at}
 
 -- ---- the soft symbols of a part
 

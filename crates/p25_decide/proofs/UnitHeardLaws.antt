@@ -1,21 +1,21 @@
 -- What is known of a data unit that a scan finds: its type has a length, or it is a packet, and its bits alone are divided into it.
-use Rattle.std.proofs.Common.{◌≡◌, ◌≢◌, ℕ, ◌*◌, ◌/◌, ◌≤◌, ◌<◌, inl, inr, Bool, true, false, List, length, take, Option, Some, None, refl, ap, sym, ◌∙◌, subst, arith, ℤ}
+use Rattle.std.proofs.Common.{◌≡◌, ◌≢◌, ℕ, ◌*◌, ◌/◌, ◌≤◌, inl, inr, Bool, true, List, length, take, Option, Some, None, refl, ap, sym, ◌∙◌, arith, ℤ}
 use Rattle.std.proofs.{Common.{eq-eqb}, lemmas.Bool.{cases_eq, ne_eqb}, lemmas.List.{length-take-le}}
-use Rattle.p25_status.specs.{Sync.{has_sync}, Woven.{bare_of, statuses_of}, declared.fields.Field.{Field}}
+use Rattle.p25_status.specs.{Sync.{has_sync}, Woven.{bare_of}, declared.fields.Field.{Field}}
 use Rattle.p25_status.proofs.{SyncLaws.{has_sync-take}, WovenLaws.{woven-of}}
 use Rattle.p25_unit_front.specs.Front.{identifier_of}
 use Rattle.p25_unit_front.proofs.FrontLaws.{identifier_of-take}
 use Rattle.p25_voice_units.specs.Lengths.{voice_length_of}
-use Rattle.p25_units.specs.{Items.{covered, unit_item_of}, Needs.{kind_need, need_of}, Units.{body_duid, body_length, frame_length_of, sent_length}, declared.unit.Body.{Body}}
+use Rattle.p25_units.specs.{Items.{unit_item_of}, Needs.{kind_need, need_of}, Units.{body_duid, body_length, frame_length_of, sent_length}, declared.unit.Body.{Body}}
 use Rattle.p25_units.specs.{declared.frame.Frame.{Frame}, declared.item.Item.{Item}, declared.item.Item.TheVariants.{Whole, Broken}, declared.needs.Need.TheVariants.{Length}}
 use Rattle.p25_units.specs.declared.unit.Body.TheVariants.{Voice, Packet}
-use Rattle.p25_units.proofs.{KindsLaws.{IsPacketKind, IsUnitOf, IsUnitOf-need, IsVoiceKind}, PacketNeedLaws.{need_of-packet_alone}, UnitsLaws.{IsSentLength-body, IsSentLength-voice, body_length-known}}
+use Rattle.p25_units.proofs.{KindsLaws.{IsUnitOf, IsUnitOf-need, IsVoiceKind}, PacketNeedLaws.{need_of-packet_alone}, UnitsLaws.{IsSentLength-body, IsSentLength-voice, body_length-known}}
 use Rattle.p25_units.proofs.NeedsLaws.{IsIdentified-from, identified_need-some, kind_need-voice, length_need-there, need_of-synced, need_of-there, synced_need-read}
 use Rattle.p25_follow.specs.Followed.{unit_name}
 use Rattle.p25_follow.proofs.FoundLaws.{found-unit}
 use Rattle.p25_soft.specs.{Levels.{hard_bits}, Softened.{IsHeard, IsReadFrom, softened}}
-use Rattle.p25_soft.proofs.{HardBitsLaws.{length-hard_bits}, HeardLaws.{IsHeard-unit}}
-use Rattle.p25_decide.specs.{DecidedRecordings.{item_decided, unit_decided}, DecidedUnits.{decided_bare, decided_sent}}
+use Rattle.p25_soft.proofs.{HeardLaws.{IsHeard-unit}}
+use Rattle.p25_decide.specs.{DecidedRecordings.{unit_decided}, DecidedUnits.{decided_bare, decided_sent}}
 use Rattle.p25_decide.proofs.UnitsLaws.{decided-other}
 
 -- ---- the lengths of a voice unit

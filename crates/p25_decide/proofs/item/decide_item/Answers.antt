@@ -1,4 +1,4 @@
-use Rattle.std.proofs.Common.{◌≡◌, ◌≢◌, ℕ, ◌+◌, ◌-◌, ◌*◌, ◌/◌, ◌%◌, ◌≤◌, List, Bool, length, take, drop, refl, ap, ap₂, sym, subst, ◌∙◌, arith, ℤ}
+use Rattle.std.proofs.Common.{◌≡◌, ◌≢◌, ℕ, ◌+◌, ◌-◌, ◌*◌, ◌/◌, ◌%◌, ◌≤◌, List, Bool, length, take, drop, refl, ap, sym, ◌∙◌, arith, ℤ}
 use Rattle.std.proofs.lemmas.Bool.{ne_eqb}
 use Rattle.p25_bits.specs.Bits.{part}
 use Rattle.p25_units.specs.{Items.{covered, place_of}, declared.item.Item.{Item}}

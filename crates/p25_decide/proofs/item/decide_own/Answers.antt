@@ -1,11 +1,11 @@
-use Rattle.std.proofs.Common.{◌≡◌, ◌≢◌, ℕ, ◌*◌, ◌/◌, List, Bool, length, true, Some, refl, ap, sym, subst, ◌∙◌, arith, ℤ}
+use Rattle.std.proofs.Common.{◌≡◌, ◌≢◌, ℕ, ◌*◌, ◌/◌, List, Bool, length, true, Some, ap, sym, subst, ◌∙◌, arith, ℤ}
 use Rattle.std.specs.Option.{is_some}
 use Rattle.p25_voice_units.specs.Lengths.{voice_length_of}
-use Rattle.p25_units.specs.{Items.{covered}, Units.{body_duid, frame_length_of}, declared.frame.Frame.{Frame}, declared.item.Item.{Item}, declared.item.Item.TheVariants.{Whole, Broken}}
+use Rattle.p25_units.specs.{Units.{body_duid}, declared.frame.Frame.{Frame}, declared.item.Item.{Item}, declared.item.Item.TheVariants.{Whole, Broken}}
 use Rattle.p25_status.specs.declared.fields.Field.{Field}
 use Rattle.p25_units.specs.declared.unit.Body.{Body}
 use Rattle.p25_follow.specs.Followed.{unit_name}
-use Rattle.p25_soft.specs.{Levels.{hard_bits}, Softened.{IsHeard, softened}}
+use Rattle.p25_soft.specs.{Softened.{IsHeard, softened}}
 use Rattle.p25_soft.proofs.HardBitsLaws.{length-hard_bits}
 use Rattle.p25_decide.specs.{DecidedRecordings.{unit_decided}, DecidedUnits.{decided_sent}}
 use Rattle.p25_decide.proofs.UnitHeardLaws.{HasVoiceLength, broken-length, decided-broken, decided-broken-packet, decided-no-unit, decided-packet, decided-whole, whole-length}

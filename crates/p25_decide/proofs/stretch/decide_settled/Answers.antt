@@ -1,11 +1,11 @@
-use Rattle.std.proofs.Common.{◌≡◌, ℕ, ◌+◌, ◌-◌, ◌*◌, ◌≤◌, ◌<◌, Bool, List, [], ◌++◌, length, take, drop, Option, Some, None, refl, ap, ap₂, sym, subst, ◌∙◌, arith, length-drop, ℤ}
+use Rattle.std.proofs.Common.{◌≡◌, ℕ, ◌+◌, ◌-◌, ◌*◌, Bool, List, ◌++◌, length, take, drop, Option, Some, None, refl, ap, ap₂, sym, subst, ◌∙◌, arith, length-drop}
 use Rattle.std.proofs.lemmas.List.{drop-drop}
 use Rattle.p25_bits.specs.Bits.{part}
 use Rattle.p25_bits.proofs.PartLaws.{drop-is_part}
 use Rattle.p25_bch_nid.specs.declared.nid.Nid.{Nid}
 use Rattle.p25_follow.specs.{Chains.{chain_by}, Expected.{kind_length, name_of, names_of}}
 use Rattle.p25_follow.proofs.AfterUnitLaws.{Sound, some-sound}
-use Rattle.p25_decide.specs.{DecidedRecordings.{item_decided}, DecidedTaking.{AreFrom, over_by, over_left, settled_kind, voice_decided}}
+use Rattle.p25_decide.specs.{DecidedRecordings.{item_decided}, DecidedTaking.{over_by, over_left, settled_kind, voice_decided}}
 use Rattle.p25_decide.proofs.StretchSteps.{IsAmongSettled, is-among, over-begins, over-ends, over-goes, over-nothing}
 use Rattle.p25_decide.proofs.stretch.decide_settled.Goals as goal
 

@@ -1,9 +1,9 @@
-use Rattle.std.proofs.Common.{◌≡◌, ℕ, ◌+◌, ◌-◌, ◌*◌, ◌/◌, ◌%◌, ◌≤◌, Bool, List, [], ◌++◌, length, take, drop, Some, refl, ap, ap₂, sym, subst, ◌∙◌, arith, append_assoc, ℤ}
+use Rattle.std.proofs.Common.{◌≡◌, ℕ, ◌+◌, ◌-◌, ◌*◌, ◌/◌, ◌≤◌, Bool, List, ◌++◌, length, take, drop, Some, ap, ap₂, sym, subst, ◌∙◌, arith, ℤ}
 use Rattle.p25_bits.specs.Bits.{part}
 use Rattle.p25_bits.proofs.PartLaws.{length-part, part_whole}
 use Rattle.p25_voice_units.specs.Lengths.{voice_length_of}
 use Rattle.p25_follow.specs.Expected.{kind_length}
-use Rattle.p25_decide.specs.{DecidedTaking.{AreFrom, voice_decided}, DecidedUnits.{decided_sent}}
+use Rattle.p25_decide.specs.{DecidedTaking.{voice_decided}, DecidedUnits.{decided_sent}}
 use Rattle.p25_decide.proofs.StretchSteps.{voice-even, voice-fits, voice-odd}
 use Rattle.p25_decide.proofs.stretch.put_unit.Goals.{then-from-eq0, else-from-eq0}
 use Rattle.p25_decide.proofs.stretch.put_unit.Goals as goal

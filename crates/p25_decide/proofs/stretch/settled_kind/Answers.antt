@@ -1,4 +1,4 @@
-use Rattle.std.proofs.Common.{◌≡◌, ℕ, ◌≤◌, ◌<◌, ◌||◌, Bool, List, length, drop, nat_le, ap, sym, ◌∙◌, arith, length-drop}
+use Rattle.std.proofs.Common.{◌||◌, Bool, length, drop, nat_le, ap, sym, ◌∙◌, arith, length-drop}
 use Rattle.std.proofs.lemmas.Bool.{le-leb, lt-leb}
 use Rattle.p25_follow.specs.Expected.{name_of, names_of}
 use Rattle.p25_decide.proofs.StretchSteps.{kind-goes, kind-waits}

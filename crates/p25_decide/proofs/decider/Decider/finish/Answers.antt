@@ -1,4 +1,4 @@
-use Rattle.std.proofs.Common.{◌≡◌, ℕ, ◌+◌, ◌*◌, None, refl, subst, ◌∙◌}
+use Rattle.std.proofs.Common.{◌≡◌, ◌+◌, ◌*◌, None, refl, subst, ◌∙◌}
 use Rattle.p25_follow.specs.{Expected.{names_of}, Following.{Follow}}
 use Rattle.p25_decide.specs.{DecidedRecordings.{item_decided}, DecidedStretches.{chain_over}}
 use Rattle.p25_decide.proofs.DeciderSteps.{end-settled, unit-fits, unit-over}

@@ -1,4 +1,4 @@
-use Rattle.std.proofs.Common.{◌≡◌, ℕ, ◌+◌, ◌*◌, ◌++◌, List, Bool, None, ap, subst, ◌∙◌}
+use Rattle.std.proofs.Common.{◌≡◌, ◌+◌, ◌*◌, ◌++◌, List, Bool, ap, subst, ◌∙◌}
 use Rattle.p25_follow.specs.{Expected.{names_of}, Following.{Follow}}
 use Rattle.p25_follow.proofs.FollowerSteps.{appended-all}
 use Rattle.p25_decide.specs.{DecidedFollowing.{settled_over}, DecidedRecordings.{item_decided}}

@@ -1,4 +1,4 @@
-use Rattle.std.proofs.Common.{◌≡◌, ℕ, ◌+◌, ◌*◌, None, subst, ◌∙◌}
+use Rattle.std.proofs.Common.{◌≡◌, ◌+◌, ◌*◌, subst, ◌∙◌}
 use Rattle.p25_follow.specs.{Expected.{names_of}, Followed.{unit_name}, Following.{Follow}}
 use Rattle.p25_decide.specs.{DecidedRecordings.{item_decided}, DecidedStretches.{chain_over}}
 use Rattle.p25_decide.proofs.DeciderSteps.{name-behind, unit-fits, unit-over, unit-settled}
