@@ -1,16 +1,16 @@
 -- An item of a soft recording, decided: the levels of its bits and of the stretch before it are held, and the output for it and after it does not use
 -- levels before the group of the first bit that is not written.
 use Rattle.std.proofs.Common.{◌≡◌, ℕ, ◌+◌, ◌-◌, ◌*◌, ◌/◌, ◌%◌, ◌<◌, ◌≤◌, Bool, true, false, cond, inl, inr, List, [], ◌∷◌, ◌++◌, length, take, drop, replicate, Option, Some, None, refl, ap, ap₂, sym, subst, ◌∙◌, arith, append_assoc, append-nil, length-append, length-drop, ℤ, pos}
-use Rattle.std.proofs.lemmas.List.{length-replicate, length-take-le}
+use Rattle.std.proofs.lemmas.{Bool.{cases_Bool}, List.{length-replicate, length-take-le}}
 use Rattle.std.specs.Option.{is_some}
 use Rattle.p25_bits.specs.Bits.{part}
 use Rattle.p25_bits.proofs.PartLaws.{drop_behind, part-drop, part_joined, part_right}
 use Rattle.p25_status.specs.Sync.{has_sync}
-use Rattle.p25_units.specs.{declared.item.Item.{Item}, Items.{covered, place_of, unit_item_of}, Needs.{need_of}, declared.needs.Need.TheVariants.{Length}, Units.{whole_octets}}
+use Rattle.p25_units.specs.{declared.item.Item.{Item}, declared.item.Item.TheVariants.{NoUnit, Gap}, Items.{covered, place_of, unit_item_of}, Needs.{need_of}, declared.needs.Need.TheVariants.{Length}, Units.{whole_octets}}
 use Rattle.p25_units.proofs.{NeedsLaws.{need_of-there}, ItemsLaws.{covered-unit_item_of}}
 use Rattle.p25_stream.specs.{Items.{first_item, items_by}, ItemLaws.{GaveItems}, Scan.{Scan, Gave, given}}
 use Rattle.p25_stream.proofs.ItemsLaws.{first_item-cases}
-use Rattle.p25_follow.specs.{Followed.{is_rest, unit_name}, Following.{Follow, behind_item}}
+use Rattle.p25_follow.specs.{Followed.{is_rest, unit_name}, Following.{Follow, behind_item, written_item}, Relayed.{IsFitItem}}
 use Rattle.p25_soft.specs.{Levels.{hard_bits}, Softened.{IsHeard}}
 use Rattle.p25_soft.proofs.HardBitsLaws.{hard_bits-append, hard_bits-part, length-hard_bits}
 use Rattle.p25_decide.specs.{DecidedFollowing.{before_item, changed_by, own_item}, DecidedRecordings.{item_decided}, DecidedTaking.{AreFrom}}
@@ -130,6 +130,10 @@ module _ (scan next : Scan) (follow : Follow) (levels : List ℤ) (item : Item) 
   unfolding now
   gone-inside = gone-among (ahead_of scan.place follow) (ahead_of next.place now) gone-by scan next levels item raw deciding.holding gave goes.moves goes.groups
 
+  pub later-next : first_held scan.place follow ≤ first_held next.place (behind_item follow item raw)
+  unfolding now
+  later-next = goes.later
+
   pub deciding-next : IsDeciding next (behind_item follow item raw) (drop gone-by levels)
   unfolding now
   deciding-next = record {
@@ -192,6 +196,41 @@ module _ (scan next : Scan) (follow : Follow) (levels : List ℤ) (item : Item) 
       ap (λ (xs : List Bool). whole_octets (kept ++ xs)) whole
       ∙ ap (λ (xs : List Bool). whole_octets xs) (sym (append_assoc kept (bits ++ own) tail))
       ∙ sym (whole_octets-append (kept ++ (bits ++ own)) tail)
+
+-- ---- by the numbers of the code
+
+module _ (place count : ℕ) (scan : Scan) (follow : Follow) (place_is : place ≡ scan.place) (count_is : count ≡ length follow.stretch) (there : length follow.stretch ≤ scan.place) where
+  pub starts-at : 2 * first_held scan.place follow + (place - count) % 8 ≡ start_of scan.place follow
+  starts-at = omega (arith, place_is, count_is)
+
+  pub ahead-at : (place - count) % 8 + length follow.stretch ≡ ahead_of scan.place follow
+  ahead-at = omega (arith, place_is, count_is, there)
+
+  pub from-at : start_of scan.place follow % 8 ≡ (place - count) % 8
+  from-at = omega (arith, place_is, count_is)
+
+  pub item-at : 2 * first_held scan.place follow + (place - count) % 8 + length follow.stretch ≡ scan.place
+  item-at = omega (arith, place_is, count_is, there)
+
+-- the levels that go
+pub gone-at : (place covers before after : ℕ) (scan next : Scan) (follow now : Follow) → place ≡ scan.place → next.place ≡ scan.place + covers → before ≡ length follow.stretch → after ≡ length now.stretch
+    → 4 * ((place + covers - after) / 8) - 4 * ((place - before) / 8) ≡ first_held next.place now - first_held scan.place follow
+gone-at place covers before after scan next follow now place_is next_is before_is after_is = omega (arith, place_is, next_is, before_is, after_is)
+
+-- an item of a stretch is short
+pub rest-short : (item : Item) → IsFitItem item → is_rest item ≡ true → covered item ≤ 4096
+rest-short (NoUnit place field) fits rest = omega arith
+rest-short (Gap place count) fits rest = fits
+rest-short item fits rest = absurd (cc)
+
+-- an item's own bits
+pub own-written : (change : Item → List Bool → List Bool) (item : Item) (raw now : List Bool) → (is_rest item ≡ false → now ≡ change item raw) → written_item item now ≡ own_item change item raw
+unfolding written_item own_item
+own-written change item raw now is =
+    elim (cases_Bool (is_rest item)) [
+      | inl rest ↦ rw rest refl
+      | inr unit ↦ rw unit (is unit)
+    ]
 
 -- ---- the levels of an item
 

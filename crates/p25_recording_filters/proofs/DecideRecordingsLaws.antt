@@ -12,7 +12,7 @@ use Rattle.p25_filter.proofs.LinesLaws.{Contains-none}
 use Rattle.p25_recording_filters.specs.{declared.recording.Phase.{Phase}, declared.recording.Phase.TheVariants.{Reading, Ended, Closed}}
 use Rattle.p25_recording_filters.specs.{Commands.{unfilled}, Recordings.{HasClosed, has_ended}, SoftLevels.{filled, grouped, octet_level, scanned}, Softs.{IsHoldingAfter}}
 use Rattle.p25_recording_filters.specs.Decides.{DecideParts, IsDeciding, PutDecided, PutLast, ahead_of, decide_future, decide_future_by, decide_written, first_held, fresh_decide, placed, start_of}
-use Rattle.p25_recording_filters.proofs.{DecideItemLaws.{decide-given, placed-bits, placed-from}, HoldingLaws.{length-held}, OctetsLaws.{whole_octets-few}}
+use Rattle.p25_recording_filters.proofs.{DecideItemLaws.{decide-given, placed-bits, placed-from, size-next}, HoldingLaws.{length-held}, OctetsLaws.{whole_octets-few}}
 use Rattle.p25_recording_filters.proofs.SoftLevelsLaws.{filled-whole, grouped-whole, length-filled, length-grouped}
 
 abbrev pub deciding : Scan → Follow → List ℤ → List Bool → Phase → DecideParts
@@ -206,7 +206,7 @@ drained-few unfold_items enough scan going none =
 
 -- so the levels that are held are fewer than their most
 pub drained-room : ItemsUnfold → EnoughDecide → (scan : Scan) (follow : Follow) (levels : List ℤ) → IsDeciding scan follow levels → scan.finished ≡ false → given scan ≡ [] → length follow.stretch < 6912
-    → (length levels < 16420) × (scan.place < 2 ^ 30) × (length scan.held < 25920)
+    → (length levels < 16420) × (scan.place < 2 ^ 31) × (length scan.held < 25920)
 drained-room unfold_items enough scan follow levels deciding_so going none few =
     let held = drained-few unfold_items enough scan going none in
     let ahead = length-held (ahead_of scan.place follow) scan levels deciding_so.holding in
@@ -223,3 +223,28 @@ holding-done ahead scan next levels holding whole is = record {
   placed = holding.placed;
   full = λ done. whole;
 }
+
+-- levels come
+pub deciding-push : (scan next : Scan) (follow : Follow) (levels now : List ℤ) → IsDeciding scan follow levels → next.place ≡ scan.place
+    → ((ahead : ℕ) → IsHoldingAfter ahead scan levels → IsHoldingAfter ahead next now) → first_held scan.place follow + length now < 2 ^ 29 → IsDeciding next follow now
+deciding-push scan next follow levels now deciding_so place holding few = record {
+  there = omega (arith, deciding_so.there, place);
+  holding = subst (λ p. IsHoldingAfter (ahead_of p follow) next now) (sym place) (holding (ahead_of scan.place follow) deciding_so.holding);
+  few = subst (λ p. first_held p follow + length now < 2 ^ 29) (sym place) few;
+}
+
+-- the input ends
+pub deciding-done : (scan next : Scan) (follow : Follow) (levels : List ℤ) → IsDeciding scan follow levels → length levels % 4 ≡ 0 → next ≡ record scan { finished = true } → IsDeciding next follow levels
+deciding-done scan next follow levels deciding_so whole is =
+    let place : next.place ≡ scan.place = ap (λ (s : Scan). s.place) is in
+    record {
+      there = omega (arith, deciding_so.there, place);
+      holding = subst (λ p. IsHoldingAfter (ahead_of p follow) next levels) (sym place) (holding-done (ahead_of scan.place follow) scan next levels deciding_so.holding whole is);
+      few = subst (λ p. first_held p follow + length levels < 2 ^ 29) (sym place) deciding_so.few;
+    }
+
+-- the levels that are counted stay as many
+pub size-item : (before now : DecideParts) (out : List ℕ) → IsDeciding before.scan before.follow before.levels → PutDecided before out now
+    → first_held now.scan.place now.follow + length now.levels ≡ first_held before.scan.place before.follow + length before.levels
+size-item before now out deciding_so put =
+    rw (put.left, put.follows) (size-next before.scan now.scan before.follow before.levels put.item put.raw deciding_so put.gave)

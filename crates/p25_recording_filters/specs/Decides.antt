@@ -1,5 +1,5 @@
 -- The work of `decide`: its remaining output, for any levels that may still come.
-use Rattle.std.specs.Prelude.{◌≡◌, ◌≢◌, ℕ, ◌+◌, ◌-◌, ◌*◌, ◌^◌, ◌<◌, ◌≤◌, Bool, true, if◌then◌else◌, List, [], ◌++◌, length, drop, map, replicate, ℤ, pos, Some, None}
+use Rattle.std.specs.Prelude.{◌≡◌, ◌≢◌, ℕ, ◌+◌, ◌-◌, ◌*◌, ◌^◌, ◌<◌, ◌≤◌, Bool, true, false, if◌then◌else◌, List, [], ◌++◌, length, drop, map, replicate, ℤ, pos, Some, None}
 use Rattle.p25_units.specs.{Units.{whole_octets}, declared.item.Item.{Item}}
 use Rattle.p25_stream.specs.{Items.{items_by}, Scan.{Scan, Gave, given}}
 use Rattle.p25_follow.specs.Following.{Follow, behind_item, fresh_follow}
@@ -95,4 +95,6 @@ pub record PutLast (before : DecideParts) (out : List ℕ) (now : DecideParts) :
       → bits ≡ chain_over (item_decided all) (start_of before.scan.place before.follow) before.follow.before before.follow.stretch None
   pub piece : out ≡ whole_octets (before.kept ++ bits)
   pub scan : now.scan ≡ before.scan
+  pub follow : now.follow ≡ before.follow
+  pub levels : now.levels ≡ before.levels
   pub phase : now.phase ≡ Closed

@@ -151,7 +151,7 @@ impl Filter for Decide {
                 self.put_last(out);
                 Ok(true)
             }
-            Phase::Reading | Phase::Closed => Ok(false),
+            _ => Ok(false),
         }
     }
 
