@@ -1,6 +1,6 @@
 -- An item of a soft recording, decided: the levels of its bits and of the stretch before it are held, and the output for it and after it does not use
 -- levels before the group of the first bit that is not written.
-use Rattle.std.proofs.Common.{◌≡◌, ℕ, ◌+◌, ◌-◌, ◌*◌, ◌/◌, ◌%◌, ◌<◌, ◌≤◌, Bool, true, false, cond, inl, inr, List, [], ◌∷◌, ◌++◌, length, take, drop, replicate, Option, Some, None, refl, ap, ap₂, sym, subst, ◌∙◌, arith, append_assoc, append-nil, length-append, length-drop, ℤ, pos}
+use Rattle.std.proofs.Common.{◌≡◌, ℕ, ◌+◌, ◌-◌, ◌*◌, ◌/◌, ◌%◌, ◌≤◌, Bool, true, false, inl, inr, List, [], ◌∷◌, ◌++◌, length, take, drop, replicate, refl, ap, ap₂, sym, subst, ◌∙◌, arith, append_assoc, length-append, length-drop, ℤ, pos}
 use Rattle.std.proofs.lemmas.{Bool.{cases_Bool}, List.{length-replicate, length-take-le}}
 use Rattle.std.specs.Option.{is_some}
 use Rattle.p25_bits.specs.Bits.{part}
@@ -8,17 +8,17 @@ use Rattle.p25_bits.proofs.PartLaws.{drop_behind, part-drop, part_joined, part_r
 use Rattle.p25_status.specs.Sync.{has_sync}
 use Rattle.p25_units.specs.{declared.item.Item.{Item}, declared.item.Item.TheVariants.{NoUnit, Gap}, Items.{covered, place_of, unit_item_of}, Needs.{need_of}, declared.needs.Need.TheVariants.{Length}, Units.{whole_octets}}
 use Rattle.p25_units.proofs.{NeedsLaws.{need_of-there}, ItemsLaws.{covered-unit_item_of}}
-use Rattle.p25_stream.specs.{Items.{first_item, items_by}, ItemLaws.{GaveItems}, Scan.{Scan, Gave, given}}
+use Rattle.p25_stream.specs.{Items.{first_item, items_by}, ItemLaws.{GaveItems}, Scan.{Scan, Gave}}
 use Rattle.p25_stream.proofs.ItemsLaws.{first_item-cases}
 use Rattle.p25_follow.specs.{Followed.{is_rest, unit_name}, Following.{Follow, behind_item, written_item}, Relayed.{IsFitItem}}
 use Rattle.p25_soft.specs.{Levels.{hard_bits}, Softened.{IsHeard}}
 use Rattle.p25_soft.proofs.HardBitsLaws.{hard_bits-append, hard_bits-part, length-hard_bits}
 use Rattle.p25_decide.specs.{DecidedFollowing.{before_item, changed_by, own_item}, DecidedRecordings.{item_decided}, DecidedTaking.{AreFrom}}
 use Rattle.p25_decide.proofs.{AlikeLaws.{changed-alike, kept-shorter}, UnitHeardLaws.{heard-front}}
-use Rattle.p25_recording_filters.specs.{Commands.{unfilled}, SoftLevels.{grouped, scanned}, Softs.{IsHoldingAfter, first_level}}
-use Rattle.p25_recording_filters.specs.Decides.{DecideParts, IsDeciding, PutDecided, ahead_of, decide_written, first_held, placed, start_of}
+use Rattle.p25_recording_filters.specs.{Commands.{unfilled}, SoftLevels.{grouped, scanned}, Softs.{IsHoldingAfter}}
+use Rattle.p25_recording_filters.specs.Decides.{IsDeciding, ahead_of, decide_written, first_held, placed, start_of}
 use Rattle.p25_recording_filters.proofs.HoldingLaws.{bits-gone, first-given, gone-among, holding-after, length-held, place-given, raw-given, scanned-gone}
-use Rattle.p25_recording_filters.proofs.{OctetsLaws.{whole_octets-append}, SoftLevelsLaws.{length-grouped, scanned-split, ungrouped}}
+use Rattle.p25_recording_filters.proofs.{OctetsLaws.{whole_octets-append}, SoftLevelsLaws.{scanned-split, ungrouped}}
 
 -- ---- levels at their positions
 

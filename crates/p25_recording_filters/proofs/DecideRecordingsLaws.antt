@@ -1,8 +1,8 @@
 -- The progress of the work of `decide` on a soft recording: levels come, an item is returned, the input ends, and what is left is returned.
-use Rattle.std.proofs.Common.{◌≡◌, ◌≢◌, ℕ, ◌+◌, ◌-◌, ◌*◌, ◌%◌, ◌<◌, ◌≤◌, Bool, true, false, cond, inl, inr, ◌^◌, List, [], ◌∷◌, ◌++◌, length, drop, map, None, Some, Ok, refl, ap, ap₂, sym, subst, ◌∙◌, arith, append_assoc, append-nil, ℤ}
+use Rattle.std.proofs.Common.{◌≡◌, ◌≢◌, ℕ, ◌+◌, ◌*◌, ◌%◌, ◌<◌, ◌≤◌, Bool, true, false, cond, inl, inr, ◌^◌, List, [], ◌∷◌, ◌++◌, length, drop, map, None, Some, Ok, refl, ap, ap₂, sym, subst, ◌∙◌, arith, append_assoc, append-nil, ℤ}
 use Rattle.std.proofs.lemmas.{Bool.{cases_lt}, List.{map-append}}
 use Rattle.p25_units.specs.{declared.item.Item.{Item}, Units.{whole_octets}}
-use Rattle.p25_stream.specs.{Items.{items_by}, ItemLaws.{EnoughDecide, GaveItems, ItemsUnfold}, Scan.{Scan, Gave, given}}
+use Rattle.p25_stream.specs.{Items.{items_by}, ItemLaws.{EnoughDecide, GaveItems, ItemsUnfold}, Scan.{Scan, given}}
 use Rattle.p25_stream.proofs.ItemsLaws.{items_by-nil}
 use Rattle.p25_follow.specs.Following.{Follow, fresh_follow}
 use Rattle.p25_soft.{specs.Levels.{hard_bits}, proofs.HardBitsLaws.{hard_bits-none}}
@@ -10,7 +10,7 @@ use Rattle.p25_decide.specs.{DecidedFollowing.{changed_by}, DecidedRecordings.{i
 use Rattle.p25_filter.specs.{declared.ending.Ending.TheVariants.{Done}, Futures.{IsClosed, IsIdle, NextPiece, Progress}}
 use Rattle.p25_filter.proofs.LinesLaws.{Contains-none}
 use Rattle.p25_recording_filters.specs.{declared.recording.Phase.{Phase}, declared.recording.Phase.TheVariants.{Reading, Ended, Closed}}
-use Rattle.p25_recording_filters.specs.{Commands.{unfilled}, Recordings.{HasClosed, has_ended}, SoftLevels.{filled, grouped, octet_level, scanned}, Softs.{IsHoldingAfter}}
+use Rattle.p25_recording_filters.specs.{Recordings.{HasClosed, has_ended}, SoftLevels.{filled, grouped, octet_level, scanned}, Softs.{IsHoldingAfter}}
 use Rattle.p25_recording_filters.specs.Decides.{DecideParts, IsDeciding, PutDecided, PutLast, ahead_of, decide_future, decide_future_by, decide_written, first_held, fresh_decide, placed, start_of}
 use Rattle.p25_recording_filters.proofs.{DecideItemLaws.{decide-given, placed-bits, placed-from, size-next}, HoldingLaws.{length-held}, OctetsLaws.{whole_octets-few}}
 use Rattle.p25_recording_filters.proofs.SoftLevelsLaws.{filled-whole, grouped-whole, length-filled, length-grouped}

@@ -1,8 +1,7 @@
 -- The bits of an item of a soft recording, softened by the levels of its position. The output for an item does not use levels before the group of its
 -- position, so these can be dropped.
-use Rattle.std.proofs.Common.{◌≡◌, ℕ, ◌+◌, ◌-◌, ◌*◌, ◌/◌, ◌%◌, ◌<◌, ◌≤◌, ◌&&◌, inl, inr, Bool, true, false, cond, List, [], ◌∷◌, ◌++◌, length, take, drop, refl, ap, ap₂, sym, subst, ◌∙◌, arith, append_assoc, append-nil, length-append, length-drop, eq-eqb, ℤ}
+use Rattle.std.proofs.Common.{◌≡◌, ℕ, ◌+◌, ◌-◌, ◌*◌, ◌/◌, ◌%◌, ◌<◌, ◌≤◌, ◌&&◌, inl, inr, Bool, true, false, cond, List, [], ◌∷◌, ◌++◌, length, take, drop, refl, ap, ap₂, sym, subst, ◌∙◌, arith, append_assoc, eq-eqb, ℤ}
 use Rattle.std.proofs.lemmas.Bool.{cases_Bool, eqb-true, and_parts, both_ways}
-use Rattle.std.proofs.lemmas.List.{take-append-drop, take-append-le, drop-append-le, drop-drop, length-take-le, drop_at}
 use Rattle.std.specs.Prelude.{nat_eq}
 use Rattle.p25_bits.specs.Bits.{part}
 use Rattle.p25_bits.proofs.PartLaws.{part-drop, part_left}
@@ -10,10 +9,10 @@ use Rattle.p25_units.specs.{declared.item.Item.{Item}, declared.item.Item.TheVar
 use Rattle.p25_units.specs.Units.{whole_octets}
 use Rattle.p25_status.specs.{Sync.{has_sync}, declared.fields.Field.{Field}}
 use Rattle.p25_units.proofs.{NeedsLaws.{need_of-there}, ItemsLaws.{covered-unit_item_of}}
-use Rattle.p25_stream.specs.{Items.{first_item, items_by}, ItemLaws.{GaveItems}, Scan.{Scan, Gave, given}}
+use Rattle.p25_stream.specs.{Items.{first_item, items_by}, ItemLaws.{GaveItems}, Scan.{Scan, Gave}}
 use Rattle.p25_stream.proofs.{ItemsLaws.{first_item-cases, items_by-first, place_of-first_item}, WrittenLaws.{written-cons, written-nil}}
 use Rattle.p25_soft.specs.{Levels.{hard_bits}, Softened.{IsHeard, softened}}
-use Rattle.p25_soft.proofs.{HardBitsLaws.{hard_bits-append, hard_bits-drop, hard_bits-none, hard_bits-part, length-hard_bits}, HeardLaws.{IsHeard-front, softened-other, softened-unpacked}}
+use Rattle.p25_soft.proofs.{HardBitsLaws.{hard_bits-part}, HeardLaws.{IsHeard-front, softened-other, softened-unpacked}}
 use Rattle.p25_recording_filters.specs.{Commands.{unfilled}, ItemOutputs.{changed_bits}, SoftLevels.{grouped, item_softened, scanned}}
 use Rattle.p25_recording_filters.specs.Softs.{IsHeardAmong, IsHolding, first_level, is_even_packet, item_levels, soft_written}
 use Rattle.p25_recording_filters.proofs.HoldingLaws.{bits-gone, first-given, gone-among, holding-after, length-held, place-given, raw-given, scanned-gone}

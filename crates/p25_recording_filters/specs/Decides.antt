@@ -1,7 +1,7 @@
 -- The work of `decide`: its remaining output, for any levels that may still come.
-use Rattle.std.specs.Prelude.{◌≡◌, ◌≢◌, ℕ, ◌+◌, ◌-◌, ◌*◌, ◌^◌, ◌<◌, ◌≤◌, Bool, true, false, if◌then◌else◌, List, [], ◌++◌, length, drop, map, replicate, ℤ, pos, Some, None}
+use Rattle.std.specs.Prelude.{◌≡◌, ℕ, ◌+◌, ◌-◌, ◌*◌, ◌^◌, ◌<◌, ◌≤◌, Bool, true, false, if◌then◌else◌, List, [], ◌++◌, length, drop, map, replicate, ℤ, pos, Some, None}
 use Rattle.p25_units.specs.{Units.{whole_octets}, declared.item.Item.{Item}}
-use Rattle.p25_stream.specs.{Items.{items_by}, Scan.{Scan, Gave, given}}
+use Rattle.p25_stream.specs.{Items.{items_by}, Scan.{Scan, Gave}}
 use Rattle.p25_follow.specs.Following.{Follow, behind_item, fresh_follow}
 use Rattle.p25_soft.specs.Levels.{hard_bits}
 use Rattle.p25_decide.specs.{DecidedFollowing.{before_item, changed_by, own_item}, DecidedRecordings.{item_decided}, DecidedStretches.{chain_over}, DecidedTaking.{AreFrom}}

@@ -1,4 +1,4 @@
-use Rattle.std.proofs.Common.{◌≡◌, ◌≢◌, ◌-◌, ◌%◌, [], ◌∷◌, ◌++◌, List, length, ap, ap₂, sym, subst, ◌∙◌, arith, ℤ, to_z, of_z, w8}
+use Rattle.std.proofs.Common.{◌≡◌, ◌≢◌, ◌-◌, ◌%◌, [], ◌∷◌, ◌++◌, List, length, ap, ap₂, sym, subst, ◌∙◌, ℤ, to_z, of_z, w8}
 use Rattle.p25_bits.specs.Bits.{bits_of, part}
 use Rattle.p25_soft.specs.Levels.{hard_bits}
 use Rattle.p25_recording_filters.specs.Softs.{IsHoldingAfter}

@@ -1,4 +1,4 @@
-use Rattle.std.proofs.Common.{◌≡◌, length, ap, sym, arith}
+use Rattle.std.proofs.Common.{length, ap, sym, arith}
 use Rattle.p25_stream.specs.Scan.{Scan}
 use Rattle.p25_recording_filters.proofs.DecideRecordingsLaws.{deciding-fresh}
 use Rattle.p25_recording_filters.proofs.decide.Decide.new.Goals as goal

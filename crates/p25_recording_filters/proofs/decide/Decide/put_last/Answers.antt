@@ -1,5 +1,4 @@
-use Rattle.std.proofs.Common.{◌≡◌, ◌+◌, ◌*◌, None, refl, ap, sym, subst, ◌∙◌, List, ℤ}
-use Rattle.p25_follow.specs.Following.{Follow}
+use Rattle.std.proofs.Common.{None, refl, ap, sym, subst, ◌∙◌, List, ℤ}
 use Rattle.p25_decide.specs.{DecidedRecordings.{item_decided}, DecidedStretches.{chain_over}, DecidedTaking.{AreFrom}}
 use Rattle.p25_recording_filters.specs.{declared.recording.Phase.TheVariants.{Closed}, Decides.{DecideParts, PutLast, first_held}}
 use Rattle.p25_recording_filters.proofs.{DecideItemLaws.{starts-at}, DecideRecordingsLaws.{deciding}}

@@ -1,12 +1,12 @@
-use Rattle.std.proofs.Common.{◌≡◌, ℕ, ◌+◌, ◌-◌, ◌*◌, ◌/◌, ◌%◌, ◌<◌, ◌≤◌, Bool, List, [], ◌∷◌, ◌++◌, length, take, drop, refl, ap, ap₂, sym, subst, ◌∙◌, arith, ℤ}
+use Rattle.std.proofs.Common.{◌≡◌, ℕ, ◌+◌, ◌-◌, ◌*◌, ◌/◌, ◌%◌, Bool, List, [], ◌∷◌, length, drop, refl, ap, sym, subst, ◌∙◌, arith, ℤ}
 use Rattle.std.proofs.lemmas.List.{length-take-le}
 use Rattle.p25_bits.specs.Bits.{part}
-use Rattle.p25_units.specs.{declared.item.Item.{Item}, Items.{covered, place_of}}
+use Rattle.p25_units.specs.{declared.item.Item.{Item}, Items.{covered}}
 use Rattle.p25_stream.specs.Scan.{Scan, Gave, given}
 use Rattle.p25_soft.specs.Softened.{IsHeard}
 use Rattle.p25_follow.specs.Following.{Follow, behind_item, written_item}
-use Rattle.p25_decide.specs.{DecidedFollowing.{before_item, own_item}, DecidedRecordings.{item_decided}, DecidedTaking.{AreFrom}}
-use Rattle.p25_recording_filters.specs.{SoftLevels.{grouped}, Decides.{DecideParts, IsDeciding, PutDecided, first_held, start_of}}
+use Rattle.p25_decide.specs.{DecidedFollowing.{before_item}, DecidedRecordings.{item_decided}, DecidedTaking.{AreFrom}}
+use Rattle.p25_recording_filters.specs.{SoftLevels.{grouped}, Decides.{DecideParts, IsDeciding, PutDecided, first_held}}
 use Rattle.p25_recording_filters.proofs.DecideItemLaws.{ahead-at, decided-there, deciding-next, from-at, gone-at, gone-inside, item-at, later-next, own-written, rest-short, starts-at, unit-heard}
 use Rattle.p25_recording_filters.proofs.{DecideRecordingsLaws.{deciding}, HoldingLaws.{place-given}, RecordingsLaws.{gave-fits}}
 use Rattle.p25_recording_filters.proofs.decide.Decide.put_next.Goals as goal

@@ -1,4 +1,4 @@
-use Rattle.std.proofs.Common.{◌≡◌, ◌+◌, ◌*◌, ◌^◌, ◌<◌, ◌≤◌, false, true, [], length, refl, ap, subst, sym, ◌∙◌, arith}
+use Rattle.std.proofs.Common.{◌≡◌, ◌+◌, ◌^◌, ◌<◌, false, [], length, ap, subst, sym, ◌∙◌, arith}
 use Rattle.p25_stream.specs.Scan.{Scan, given}
 use Rattle.p25_filter.specs.Futures.{IsClosed}
 use Rattle.p25_recording_filters.specs.{declared.recording.Phase.TheVariants.{Ended}, Decides.{DecideParts, decide_future, first_held}, Recordings.{has_ended}}

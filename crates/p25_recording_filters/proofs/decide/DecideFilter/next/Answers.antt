@@ -1,8 +1,7 @@
-use Rattle.std.proofs.Common.{◌≡◌, ◌≢◌, ◌+◌, ◌<◌, ◌≤◌, [], length, refl, ap, subst, sym, ◌∙◌, arith}
-use Rattle.p25_stream.specs.Scan.{Scan, given}
-use Rattle.p25_follow.specs.Following.{Follow}
+use Rattle.std.proofs.Common.{◌≡◌, ◌<◌, [], length, refl, ap, subst, sym, ◌∙◌, arith}
+use Rattle.p25_stream.specs.Scan.{given}
 use Rattle.p25_filter.specs.Futures.{NextPiece}
-use Rattle.p25_recording_filters.specs.{declared.recording.Phase.TheVariants.{Ended}, Decides.{DecideParts, IsDeciding, first_held}, Recordings.{HasClosed, has_ended}}
+use Rattle.p25_recording_filters.specs.{declared.recording.Phase.TheVariants.{Ended}, Decides.{DecideParts, IsDeciding}, Recordings.{HasClosed, has_ended}}
 use Rattle.p25_recording_filters.proofs.DecideRecordingsLaws.{size-item, step-idle, step-item, step-last}
 use Rattle.p25_recording_filters.proofs.decide.DecideFilter.next.Goals as goal
 

@@ -1,4 +1,4 @@
-use Rattle.std.proofs.{Common.{◌≡◌, ◌+◌, ◌*◌, ◌^◌, ◌<◌, ◌≤◌, false, [], length, map, take, refl, ap, subst, sym, ◌∙◌, arith, length-append}, lemmas.List.{length-map, length-take-le}}
+use Rattle.std.proofs.{Common.{◌≡◌, ◌+◌, ◌*◌, ◌^◌, ◌<◌, false, [], length, map, take, ap, subst, sym, ◌∙◌, arith, length-append}, lemmas.List.{length-map, length-take-le}}
 use Rattle.p25_stream.specs.Scan.{given}
 use Rattle.p25_filter.specs.Futures.{Progress}
 use Rattle.p25_recording_filters.specs.{Decides.{DecideParts, decide_future, first_held}, Recordings.{has_ended}, SoftLevels.{octet_level}}

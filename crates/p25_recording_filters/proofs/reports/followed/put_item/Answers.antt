@@ -1,4 +1,4 @@
-use Rattle.std.proofs.Common.{◌++◌, List, Bool, ap, sym, ◌∙◌}
+use Rattle.std.proofs.Common.{List, Bool, ap, sym, ◌∙◌}
 use Rattle.p25_units.specs.Units.{whole_octets}
 use Rattle.p25_recording_filters.specs.Commands.{unfilled}
 use Rattle.p25_recording_filters.proofs.FollowedLaws.{joined-rest, kept-unit, piece-unit}
