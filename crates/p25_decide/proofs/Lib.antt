@@ -9,3 +9,7 @@ pub mod OverLaws
 pub mod RecordingsLaws
 pub mod SettledLaws
 pub mod PassLaws
+pub mod UnitHeardLaws
+pub mod StretchSteps
+pub mod AlikeLaws
+pub mod DeciderSteps

@@ -28,27 +28,27 @@ unfolding written_units written_units_in units_step
 units-stopped at before [] end is = refl
 units-stopped at before (bit ∷ bits) end is = rw is
 
-chain-none : (change : Item → List Bool → List Bool) (at : ℕ) (bits : List Bool) (end : Option (ℕ × ℕ)) → chain_over change at None bits end ≡ bits
+pub chain-none : (change : Item → List Bool → List Bool) (at : ℕ) (bits : List Bool) (end : Option (ℕ × ℕ)) → chain_over change at None bits end ≡ bits
 unfolding chain_over over_units
 chain-none change at bits end = ap₂ (λ (us : List Item) (xs : List Bool). over_units change at us xs) (units-after-none at bits end) (chain_by-none true bits end)
 
-chain-stops : (change : Item → List Bool → List Bool) (at : ℕ) (before : ℕ × ℕ) (bits : List Bool) (end : Option (ℕ × ℕ)) → step_of before bits end ≡ None → chain_over change at (Some before) bits end ≡ bits
+pub chain-stops : (change : Item → List Bool → List Bool) (at : ℕ) (before : ℕ × ℕ) (bits : List Bool) (end : Option (ℕ × ℕ)) → step_of before bits end ≡ None → chain_over change at (Some before) bits end ≡ bits
 unfolding chain_over over_units
 chain-stops change at before bits end is =
     ap₂ (λ (us : List Item) (xs : List Bool). over_units change at us xs) (units-stopped at before bits end is) (chain_by-stop true before bits end refl is)
 
 -- the first unit of a chain
-abbrev unit_at : ℕ → ℕ × ℕ → ℕ → List Bool → Item
+abbrev pub unit_at : ℕ → ℕ × ℕ → ℕ → List Bool → Item
 unit_at at before kind bits = unit_item_of at (with_front (before.0, kind) (take (kind_length kind) bits))
 
-record IsUnit (at : ℕ) (before : ℕ × ℕ) (kind : ℕ) (bits : List Bool) : Type 0 where
-  place : place_of (unit_at at before kind bits) ≡ at
-  covers : covered (unit_at at before kind bits) ≡ kind_length kind
-  long : length (with_front (before.0, kind) (take (kind_length kind) bits)) ≡ kind_length kind
-  there : kind_length kind ≤ length bits
-  some : 0 < kind_length kind
+pub record IsUnit (at : ℕ) (before : ℕ × ℕ) (kind : ℕ) (bits : List Bool) : Type 0 where
+  pub place : place_of (unit_at at before kind bits) ≡ at
+  pub covers : covered (unit_at at before kind bits) ≡ kind_length kind
+  pub long : length (with_front (before.0, kind) (take (kind_length kind) bits)) ≡ kind_length kind
+  pub there : kind_length kind ≤ length bits
+  pub some : 0 < kind_length kind
 
-is-unit : (at : ℕ) (before : ℕ × ℕ) (kind : ℕ) (bits : List Bool) (end : Option (ℕ × ℕ)) → Sound (Some before) → step_of before bits end ≡ Some kind → IsUnit at before kind bits
+pub is-unit : (at : ℕ) (before : ℕ × ℕ) (kind : ℕ) (bits : List Bool) (end : Option (ℕ × ℕ)) → Sound (Some before) → step_of before bits end ≡ Some kind → IsUnit at before kind bits
 is-unit at before kind bits end sound is =
     let there = step_of-there before bits end kind is in
     let raw = take (kind_length kind) bits in
@@ -80,7 +80,7 @@ Settles change turns at before bits more end =
     ++ chain_over change (at + length (settled_of before bits)) (left_of before bits).before ((left_of before bits).stretch ++ more) end
 
 -- the first unit of a chain, changed, and the chain after it
-chain-next : (change : Item → List Bool → List Bool) (at : ℕ) (before : ℕ × ℕ) (bits : List Bool) (end : Option (ℕ × ℕ)) (kind : ℕ) → step_of before bits end ≡ Some kind → Sound (Some before)
+pub chain-next : (change : Item → List Bool → List Bool) (at : ℕ) (before : ℕ × ℕ) (bits : List Bool) (end : Option (ℕ × ℕ)) (kind : ℕ) → step_of before bits end ≡ Some kind → Sound (Some before)
     → chain_over change at (Some before) bits end
     ≡ change (unit_at at before kind bits) (with_front (before.0, kind) (take (kind_length kind) bits)) ++ chain_over change (at + kind_length kind) (Some (before.0, kind)) (drop (kind_length kind) bits) end
 unfolding chain_over
@@ -88,21 +88,21 @@ chain-next change at before bits end kind is sound =
     ap₂ (λ (us : List Item) (xs : List Bool). over_units change at us xs) (written-step at before bits end kind is) (chain_by-step true before bits end kind refl is)
     ∙ over-step change at before kind bits _ _ (is-unit at before kind bits end sound is)
 
-units-none : (turns at : ℕ) (bits : List Bool) → settled_units_in turns at None bits ≡ []
+pub units-none : (turns at : ℕ) (bits : List Bool) → settled_units_in turns at None bits ≡ []
 unfolding settled_units_in
 units-none zero at bits = refl
 units-none (suc turns) at bits = refl
 
-units-short : (turns at : ℕ) (before : ℕ × ℕ) (bits : List Bool) → length bits < 6912 → settled_units_in turns at (Some before) bits ≡ []
+pub units-short : (turns at : ℕ) (before : ℕ × ℕ) (bits : List Bool) → length bits < 6912 → settled_units_in turns at (Some before) bits ≡ []
 unfolding settled_units_in
 units-short zero at before bits short = refl
 units-short (suc turns) at before bits short = rw (lt-leb 6912 (length bits) short)
 
-units-stop : (turns at : ℕ) (before : ℕ × ℕ) (bits : List Bool) → 6912 ≤ length bits → step_of before bits None ≡ None → settled_units_in (suc turns) at (Some before) bits ≡ []
+pub units-stop : (turns at : ℕ) (before : ℕ × ℕ) (bits : List Bool) → 6912 ≤ length bits → step_of before bits None ≡ None → settled_units_in (suc turns) at (Some before) bits ≡ []
 unfolding settled_units_in units_step
 units-stop turns at before bits long is = rw (le-leb 6912 (length bits) long, is)
 
-units-next : (turns at : ℕ) (before : ℕ × ℕ) (bits : List Bool) (kind : ℕ) → 6912 ≤ length bits → step_of before bits None ≡ Some kind
+pub units-next : (turns at : ℕ) (before : ℕ × ℕ) (bits : List Bool) (kind : ℕ) → 6912 ≤ length bits → step_of before bits None ≡ Some kind
     → settled_units_in (suc turns) at (Some before) bits ≡ unit_at at before kind bits ∷ settled_units_in turns (at + kind_length kind) (Some (before.0, kind)) (drop (kind_length kind) bits)
 unfolding settled_units_in units_step
 units-next turns at before bits kind long is = rw (le-leb 6912 (length bits) long, is)
@@ -165,3 +165,60 @@ pub chain-over-settles : (change : Item → List Bool → List Bool) (at : ℕ) 
     ≡ settled_over change at before bits ++ chain_over change (at + length (settled_of before bits)) (left_of before bits).before ((left_of before bits).stretch ++ more) end
 unfolding settled_over
 chain-over-settles change at before bits more end sound = settles-in change (length bits) at before bits more end (omega arith) sound
+
+-- ---- what is settled, unit by unit
+
+units_step-same : (f g : ℕ → ℕ × ℕ → List Bool → List Item) (at : ℕ) (before : ℕ × ℕ) (bits : List Bool) (kind : Option ℕ)
+    → ((k : ℕ) → kind ≡ Some k → f (at + kind_length k) (before.0, k) (drop (kind_length k) bits) ≡ g (at + kind_length k) (before.0, k) (drop (kind_length k) bits))
+    → units_step f at before bits kind ≡ units_step g at before bits kind
+unfolding units_step
+units_step-same f g at before bits None same = refl
+units_step-same f g at before bits (Some kind) same = rw (same kind refl)
+
+-- with turns enough for every bit it does not matter how many there are
+units-enough : (more turns at : ℕ) (before : ℕ × ℕ) (bits : List Bool) → length bits ≤ more → length bits ≤ turns → settled_units_in more at (Some before) bits ≡ settled_units_in turns at (Some before) bits
+unfolding settled_units_in
+units-enough zero turns at before bits a b =
+    let short : length bits < 6912 = omega arith in
+    units-short zero at before bits short ∙ sym (units-short turns at before bits short)
+units-enough (suc more) zero at before bits a b =
+    let short : length bits < 6912 = omega arith in
+    units-short (suc more) at before bits short ∙ sym (units-short zero at before bits short)
+units-enough (suc more) (suc turns) at before bits a b =
+    rw (units_step-same (λ position name left. settled_units_in more position (Some name) left) (λ position name left. settled_units_in turns position (Some name) left) at before bits (step_of before bits None)
+    (λ kind is. let there = step_of-there before bits None kind is in
+    let less : length (drop (kind_length kind) bits) + 144 ≤ length bits = omega (arith, length-drop (kind_length kind) bits, there.few, there.there) in
+    units-enough more turns (at + kind_length kind) (before.0, kind) (drop (kind_length kind) bits) (omega arith) (omega arith)))
+
+pub settled-none : (change : Item → List Bool → List Bool) (at : ℕ) (bits : List Bool) → settled_over change at None bits ≡ bits
+unfolding settled_over
+settled-none change at bits =
+    ap₂ (λ (us : List Item) (xs : List Bool). over_units change at us xs) (units-none (length bits) at bits) (chain_by-none false bits None) ∙ over-nil change at bits
+
+pub settled-waits : (change : Item → List Bool → List Bool) (at : ℕ) (before : ℕ × ℕ) (bits : List Bool) → length bits < 6912 → settled_over change at (Some before) bits ≡ []
+unfolding settled_over
+settled-waits change at before bits short =
+    ap₂ (λ (us : List Item) (xs : List Bool). over_units change at us xs) (units-short (length bits) at before bits short) (chain_by-waits before bits None short) ∙ over-nil change at []
+
+pub settled-stops : (change : Item → List Bool → List Bool) (at : ℕ) (before : ℕ × ℕ) (bits : List Bool) → 6912 ≤ length bits → step_of before bits None ≡ None
+    → settled_over change at (Some before) bits ≡ bits
+unfolding settled_over
+settled-stops change at before bits long is =
+    let goes : (false || nat_le 6912 (length bits)) ≡ true = le-leb 6912 (length bits) long in
+    let units = units-enough (length bits) (suc (length bits)) at before bits (omega arith) (omega arith) ∙ units-stop (length bits) at before bits long is in
+    ap₂ (λ (us : List Item) (xs : List Bool). over_units change at us xs) units (chain_by-stop false before bits None goes is) ∙ over-nil change at bits
+
+pub settled-next : (change : Item → List Bool → List Bool) (at : ℕ) (before : ℕ × ℕ) (bits : List Bool) (kind : ℕ) → 6912 ≤ length bits → step_of before bits None ≡ Some kind → Sound (Some before)
+    → settled_over change at (Some before) bits
+    ≡ change (unit_at at before kind bits) (with_front (before.0, kind) (take (kind_length kind) bits)) ++ settled_over change (at + kind_length kind) (Some (before.0, kind)) (drop (kind_length kind) bits)
+unfolding settled_over
+settled-next change at before bits kind long is sound =
+    let goes : (false || nat_le 6912 (length bits)) ≡ true = le-leb 6912 (length bits) long in
+    let k = kind_length kind in
+    let left = drop k bits in
+    let name : ℕ × ℕ = (before.0, kind) in
+    let fewer : length left ≤ length bits = omega (arith, length-drop k bits) in
+    let units = units-enough (length bits) (suc (length bits)) at before bits (omega arith) (omega arith) ∙ units-next (length bits) at before bits kind long is
+    ∙ ap (λ (us : List Item). unit_at at before kind bits ∷ us) (units-enough (length bits) (length left) (at + k) name left fewer (omega arith)) in
+    ap₂ (λ (us : List Item) (xs : List Bool). over_units change at us xs) units (chain_by-step false before bits None kind goes is)
+    ∙ over-step change at before kind bits (settled_of (Some name) left) (settled_units_in (length left) (at + k) (Some name) left) (is-unit at before kind bits None sound is)

@@ -3,3 +3,4 @@ pub mod DecidedUnits
 pub mod DecidedRecordings
 pub mod DecidedStretches
 pub mod DecidedFollowing
+pub mod DecidedTaking

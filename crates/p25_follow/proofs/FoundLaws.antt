@@ -82,7 +82,7 @@ kind_length-found : (kind : ℕ) (found : Option ℕ) → voice_length_of kind �
 unfolding kind_length
 kind_length-found kind found is = rw is
 
-IsVoice-kind : (kind : ℕ) → 144 ≤ kind_length kind → IsVoice kind
+pub IsVoice-kind : (kind : ℕ) → 144 ≤ kind_length kind → IsVoice kind
 IsVoice-kind kind few = voice-by kind (voice_length_of kind) refl (kind_length-found kind (voice_length_of kind) refl) few
 
 -- ---- the item there

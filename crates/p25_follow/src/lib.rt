@@ -43,6 +43,7 @@ mod chain;
 mod expected;
 mod follower;
 pub mod laws;
+pub mod parts;
 mod relay;
 mod steps;
 #[cfg(test)]

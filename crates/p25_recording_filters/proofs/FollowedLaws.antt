@@ -1,9 +1,9 @@
--- The octets that `follow` writes when an item arrives: those that the bits before its own fill, and then its own.
+-- The octets that are written when an item arrives: those that the bits before its own fill, and then its own.
 use Rattle.std.proofs.Common.{◌≡◌, ℕ, ◌+◌, ◌*◌, ◌/◌, ◌≤◌, Bool, true, false, List, [], ◌++◌, length, drop, arith, append_assoc, append-nil, length-append, length-drop}
 use Rattle.std.proofs.lemmas.List.{drop-append-le, drop-drop}
 use Rattle.p25_units.specs.{Units.{whole_octets}, declared.item.Item.{Item}}
-use Rattle.p25_follow.specs.{Followed.{is_rest}, Following.{Follow, written_before, written_item}}
-use Rattle.p25_recording_filters.specs.Commands.{followed_item, unfilled}
+use Rattle.p25_follow.specs.{Followed.{is_rest}, Following.{written_item}}
+use Rattle.p25_recording_filters.specs.Commands.{unfilled}
 use Rattle.p25_recording_filters.proofs.OctetsLaws.{whole_octets-append}
 
 own-rest : (item : Item) (raw : List Bool) → is_rest item ≡ true → written_item item raw ≡ []
@@ -24,38 +24,18 @@ unfilled-append bits rest =
     = omega (arith, length-append bits rest, length-append (drop (8 * m) bits) rest, length-drop (8 * m) bits) in
     rw (← all, ← drop-drop, drop-append-le (8 * m) bits rest fits)
 
-module _ (follower : Follow) (kept raw : List Bool) (item : Item) where
-  before : List Bool
-  before = written_before follower item raw
-
-  all-rest : is_rest item ≡ true → before ≡ followed_item follower item raw
-  unfolding before
-  all-rest rest = rw (own-rest item raw rest, append-nil)
-
-  all-unit : is_rest item ≡ false → (kept ++ before) ++ raw ≡ kept ++ followed_item follower item raw
-  unfolding before
-  all-unit unit = rw (own-unit item raw unit, append_assoc)
-
+module _ (kept bits raw : List Bool) (item : Item) where
   -- of an item of a stretch
-  pub piece-rest : (room : List Bool) (out : List ℕ) → is_rest item ≡ true
-      → room ≡ written_before follower item raw → out ≡ whole_octets (kept ++ room) → out ≡ whole_octets (kept ++ followed_item follower item raw)
-  unfolding before
-  piece-rest room out rest made is = rw (is, made, ← all-rest rest)
+  pub joined-rest : is_rest item ≡ true → kept ++ bits ≡ kept ++ (bits ++ written_item item raw)
+  joined-rest rest = rw (own-rest item raw rest, append-nil)
 
-  pub kept-rest : (room now : List Bool) → is_rest item ≡ true → room ≡ written_before follower item raw → now ≡ unfilled (kept ++ room) → now ≡ unfilled (kept ++ followed_item follower item raw)
-  unfolding before
-  kept-rest room now rest made is = rw (is, made, ← all-rest rest)
+  joined-unit : is_rest item ≡ false → (kept ++ bits) ++ raw ≡ kept ++ (bits ++ written_item item raw)
+  joined-unit unit = rw (own-unit item raw unit, append_assoc)
 
   -- of another
-  pub piece-unit : (room between : List Bool) (first out : List ℕ)
-      → is_rest item ≡ false → room ≡ written_before follower item raw → first ≡ whole_octets (kept ++ room) → between ≡ unfilled (kept ++ room)
-      → out ≡ first ++ whole_octets (between ++ raw) → out ≡ whole_octets (kept ++ followed_item follower item raw)
-  unfolding before
-  piece-unit room between first out unit made first_is between_is is =
-      rw (is, first_is, between_is, whole_octets-append (kept ++ room) raw, made, all-unit unit)
+  pub piece-unit : (between : List Bool) (first out : List ℕ) → is_rest item ≡ false → first ≡ whole_octets (kept ++ bits) → between ≡ unfilled (kept ++ bits)
+      → out ≡ first ++ whole_octets (between ++ raw) → out ≡ whole_octets (kept ++ (bits ++ written_item item raw))
+  piece-unit between first out unit first_is between_is is = rw (is, first_is, between_is, whole_octets-append (kept ++ bits) raw, joined-unit unit)
 
-  pub kept-unit : (room between now : List Bool) → is_rest item ≡ false → room ≡ written_before follower item raw → between ≡ unfilled (kept ++ room) → now ≡ unfilled (between ++ raw)
-      → now ≡ unfilled (kept ++ followed_item follower item raw)
-  unfolding before
-  kept-unit room between now unit made between_is is =
-      rw (is, between_is, unfilled-append (kept ++ room) raw, made, all-unit unit)
+  pub kept-unit : (between now : List Bool) → is_rest item ≡ false → between ≡ unfilled (kept ++ bits) → now ≡ unfilled (between ++ raw) → now ≡ unfilled (kept ++ (bits ++ written_item item raw))
+  kept-unit between now unit between_is is = rw (is, between_is, unfilled-append (kept ++ bits) raw, joined-unit unit)

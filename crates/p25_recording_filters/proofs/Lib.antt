@@ -4,6 +4,9 @@ pub mod CallReportsLaws
 pub mod FollowedLaws
 pub mod RecordingsLaws
 pub mod SoftLevelsLaws
+pub mod HoldingLaws
 pub mod SoftItemLaws
 pub mod SoftRecordingsLaws
 pub mod SoftHearingLaws
+pub mod DecideItemLaws
+pub mod DecideRecordingsLaws

@@ -6,12 +6,13 @@ use Rattle.p25_bits.proofs.{BitsLaws.{bits_of-joined}, NumbersLaws.{number_bits-
 use Rattle.p25_stream.specs.Scan.{Scan}
 use Rattle.p25_soft.specs.Levels.{hard_bits, hard_dibit}
 use Rattle.p25_soft.proofs.HardBitsLaws.{hard_bits-append, length-hard_bits}
-use Rattle.p25_recording_filters.specs.{SoftLevels.{grouped}, Softs.{IsHolding}}
+use Rattle.p25_recording_filters.specs.{SoftLevels.{grouped}, Softs.{IsHoldingAfter}}
 use Rattle.p25_recording_filters.proofs.SoftLevelsLaws.{grouped-last, grouped-more, length-grouped}
 
 -- a level that does not fill its group
-pub holding-open : (scan : Scan) (levels : List ℤ) (level : ℤ) → IsHolding scan levels → scan.finished ≡ false → length (levels ++ level ∷ []) % 4 ≢ 0 → IsHolding scan (levels ++ level ∷ [])
-holding-open scan levels level holding going open_group =
+pub holding-open : (scan : Scan) (levels : List ℤ) (level : ℤ) → scan.finished ≡ false → length (levels ++ level ∷ []) % 4 ≢ 0
+    → (ahead : ℕ) → IsHoldingAfter ahead scan levels → IsHoldingAfter ahead scan (levels ++ level ∷ [])
+holding-open scan levels level going open_group ahead holding =
     let same = grouped-more levels level open_group in record {
       held = rw same holding.held;
       placed = omega (arith, holding.placed, ap length same);
@@ -19,18 +20,17 @@ holding-open scan levels level holding going open_group =
     }
 
 -- one that does
-pub holding-group : (scan next : Scan) (levels : List ℤ) (level : ℤ) (octet : ℕ) → IsHolding scan levels → scan.finished ≡ false → length (levels ++ level ∷ []) % 4 ≡ 0
+pub holding-group : (scan next : Scan) (levels : List ℤ) (level : ℤ) (octet : ℕ) → scan.finished ≡ false → length (levels ++ level ∷ []) % 4 ≡ 0
     → bits_of 8 octet ≡ hard_bits (part (length (levels ++ level ∷ []) - 4) 4 (levels ++ level ∷ []))
-    → next ≡ record scan { held = scan.held ++ bits_of 8 octet } → IsHolding next (levels ++ level ∷ [])
-holding-group scan next levels level octet holding going whole bits is =
+    → next ≡ record scan { held = scan.held ++ bits_of 8 octet } → (ahead : ℕ) → IsHoldingAfter ahead scan levels → IsHoldingAfter ahead next (levels ++ level ∷ [])
+holding-group scan next levels level octet going whole bits is ahead holding =
     let all = levels ++ level ∷ [] in
     let last = part (length all - 4) 4 all in
-    let place : next.place ≡ scan.place = ap (λ (s : Scan). s.place) is in
-    let there : scan.place % 8 ≤ length (hard_bits (grouped levels)) = omega (arith, holding.placed, length-hard_bits (grouped levels)) in
-    let held : next.held ≡ drop (scan.place % 8) (hard_bits (grouped all))
-    = rw (is, holding.held, bits, ← drop-append-le (scan.place % 8) (hard_bits (grouped levels)) (hard_bits last) there, ← hard_bits-append, grouped-last levels level whole) in record {
-      held = rw place held;
-      placed = omega (arith, ap (λ p. p % 8) place, holding.placed, length-grouped levels, length-grouped all, length-append levels (level ∷ []));
+    let there : ahead ≤ length (hard_bits (grouped levels)) = omega (arith, holding.placed, length-hard_bits (grouped levels)) in
+    let held : next.held ≡ drop ahead (hard_bits (grouped all))
+    = rw (is, holding.held, bits, ← drop-append-le ahead (hard_bits (grouped levels)) (hard_bits last) there, ← hard_bits-append, grouped-last levels level whole) in record {
+      held = held;
+      placed = omega (arith, holding.placed, length-grouped levels, length-grouped all, length-append levels (level ∷ []));
       full = λ done. let two : false ≡ true = sym going ∙ sym (ap (λ (s : Scan). s.finished) is) ∙ done in absurd (cc);
     }
 

@@ -1,8 +1,7 @@
 -- The bits of an item of a soft recording, softened by the levels of its position. The output for an item does not use levels before the group of its
 -- position, so these can be dropped.
-use Rattle.std.proofs.Common.{◌≡◌, ℕ, ◌+◌, ◌-◌, ◌*◌, ◌/◌, ◌%◌, ◌<◌, ◌≤◌, ◌&&◌, inl, inr, Bool, true, false, cond, List, [], ◌∷◌, ◌++◌, length, take, drop, refl, ap, ap₂, sym, subst, ◌∙◌, arith, append_assoc, append-nil, length-append, length-drop, eq-eqb, ℤ}
+use Rattle.std.proofs.Common.{◌≡◌, ℕ, ◌+◌, ◌-◌, ◌*◌, ◌/◌, ◌%◌, ◌<◌, ◌≤◌, ◌&&◌, inl, inr, Bool, true, false, cond, List, [], ◌∷◌, ◌++◌, length, take, drop, refl, ap, ap₂, sym, subst, ◌∙◌, arith, append_assoc, eq-eqb, ℤ}
 use Rattle.std.proofs.lemmas.Bool.{cases_Bool, eqb-true, and_parts, both_ways}
-use Rattle.std.proofs.lemmas.List.{take-append-drop, take-append-le, drop-append-le, drop-drop, length-take-le, drop_at}
 use Rattle.std.specs.Prelude.{nat_eq}
 use Rattle.p25_bits.specs.Bits.{part}
 use Rattle.p25_bits.proofs.PartLaws.{part-drop, part_left}
@@ -10,13 +9,14 @@ use Rattle.p25_units.specs.{declared.item.Item.{Item}, declared.item.Item.TheVar
 use Rattle.p25_units.specs.Units.{whole_octets}
 use Rattle.p25_status.specs.{Sync.{has_sync}, declared.fields.Field.{Field}}
 use Rattle.p25_units.proofs.{NeedsLaws.{need_of-there}, ItemsLaws.{covered-unit_item_of}}
-use Rattle.p25_stream.specs.{Items.{first_item, items_by}, ItemLaws.{GaveItems}, Scan.{Scan, Gave, given}}
+use Rattle.p25_stream.specs.{Items.{first_item, items_by}, ItemLaws.{GaveItems}, Scan.{Scan, Gave}}
 use Rattle.p25_stream.proofs.{ItemsLaws.{first_item-cases, items_by-first, place_of-first_item}, WrittenLaws.{written-cons, written-nil}}
 use Rattle.p25_soft.specs.{Levels.{hard_bits}, Softened.{IsHeard, softened}}
-use Rattle.p25_soft.proofs.{HardBitsLaws.{hard_bits-append, hard_bits-drop, hard_bits-none, hard_bits-part, length-hard_bits}, HeardLaws.{IsHeard-front, softened-other, softened-unpacked}}
+use Rattle.p25_soft.proofs.{HardBitsLaws.{hard_bits-part}, HeardLaws.{IsHeard-front, softened-other, softened-unpacked}}
 use Rattle.p25_recording_filters.specs.{Commands.{unfilled}, ItemOutputs.{changed_bits}, SoftLevels.{grouped, item_softened, scanned}}
 use Rattle.p25_recording_filters.specs.Softs.{IsHeardAmong, IsHolding, first_level, is_even_packet, item_levels, soft_written}
-use Rattle.p25_recording_filters.proofs.{OctetsLaws.{whole_octets-append}, SoftLevelsLaws.{filled-whole, grouped-ungrouped, length-grouped, scanned-append, scanned-split, ungrouped, ungrouped-none}}
+use Rattle.p25_recording_filters.proofs.HoldingLaws.{bits-gone, first-given, gone-among, holding-after, length-held, place-given, raw-given, scanned-gone}
+use Rattle.p25_recording_filters.proofs.{OctetsLaws.{whole_octets-append}, SoftLevelsLaws.{grouped-ungrouped, length-grouped, scanned-split, ungrouped}}
 
 -- the levels of an item from a group on
 part_from_group : (place covers : ℕ) (levels : List ℤ) → part (place / 2 - first_level place) covers levels ≡ part (place % 8 / 2) covers levels
@@ -87,25 +87,6 @@ changed-alike f g from alike (item ∷ items) ended place bits others late are =
       changed-alike f g from alike items ended (place + covered item) (drop (covered item) bits) (drop (covered item) others) behind (sym parts.2),
     )
 
--- an item that was given begins at the place of the scanner
-pub place-given : (scan next : Scan) (item : Item) (raw : List Bool) → Gave scan item raw next → (place_of item ≡ scan.place) × (item ≡ first_item scan.place scan.held)
-place-given scan next item raw gave =
-    let parts = items_by-first scan.finished scan.place scan.held item (given next) gave.items in
-    (ap place_of parts.1 ∙ place_of-first_item scan.place scan.held, parts.1)
-
--- the bits that are held, and those of levels that come
-held-bits : (ended : Bool) (scan : Scan) (levels new : List ℤ) → IsHolding scan levels
-    → drop (scan.place % 8) (hard_bits (scanned ended (levels ++ new))) ≡ scan.held ++ hard_bits (scanned ended (ungrouped levels ++ new))
-held-bits ended scan levels new holding =
-    let rest = scanned ended (ungrouped levels ++ new) in
-    let there : scan.place % 8 ≤ length (hard_bits (grouped levels)) = omega (arith, holding.placed, length-hard_bits (grouped levels)) in
-    rw (scanned-split ended levels new, hard_bits-append (grouped levels) rest, drop-append-le (scan.place % 8) (hard_bits (grouped levels)) (hard_bits rest) there, holding.held)
-
--- how many bits are held
-pub length-held : (scan : Scan) (levels : List ℤ) → IsHolding scan levels → scan.place % 8 + length scan.held ≡ 2 * length (grouped levels)
-length-held scan levels holding =
-    omega (arith, ap length holding.held, length-drop (scan.place % 8) (hard_bits (grouped levels)), length-hard_bits (grouped levels), holding.placed)
-
 -- an item is given
 module _ (scan next : Scan) (levels : List ℤ) (item : Item) (raw : List Bool) (holding : IsHolding scan levels) (gave : Gave scan item raw next) where
   -- the levels that go with it
@@ -118,64 +99,21 @@ module _ (scan next : Scan) (levels : List ℤ) (item : Item) (raw : List Bool) 
       let later : first_level scan.place ≤ first_level next.place = omega (arith, place) in
       (omega arith, omega (arith, place), omega (arith, place))
 
-  gone-le : gone ≤ length (grouped levels)
-  gone-le = omega (arith, gone-is.1, gave.there, length-held scan levels holding)
-
   pub gone-there : gone ≤ length levels
-  gone-there = omega (arith, gone-le, length-grouped levels)
-
-  -- what is scanned, without the levels that are gone
-  scanned-gone : (ended : Bool) (new : List ℤ) → drop gone (scanned ended (levels ++ new)) ≡ scanned ended (drop gone levels ++ new)
-  scanned-gone ended new =
-      let front = take gone levels in
-      let long : length front ≡ gone = length-take-le gone levels gone-there in
-      let whole : length front % 4 ≡ 0 = omega (arith, long, gone-is.2) in
-      let split : levels ++ new ≡ front ++ (drop gone levels ++ new) = rw (← append_assoc front, take-append-drop) in
-      rw (split, scanned-append ended front (drop gone levels ++ new) whole, drop_at front (scanned ended (drop gone levels ++ new)) gone long)
-
-  -- and its bits after the item
-  bits-gone : (ended : Bool) (new : List ℤ)
-      → drop (next.place % 8) (hard_bits (scanned ended (drop gone levels ++ new))) ≡ drop (covered item) (drop (scan.place % 8) (hard_bits (scanned ended (levels ++ new))))
-  bits-gone ended new =
-      let all = scanned ended (levels ++ new) in
-      let inside : gone ≤ length all
-      = omega (arith, gone-le, ap length (scanned-split ended levels new), length-append (grouped levels) (scanned ended (ungrouped levels ++ new))) in
-      rw (← scanned-gone ended new, ← hard_bits-drop gone all inside, drop-drop, drop-drop, gone-is.1)
+  gone-there = gone-among (scan.place % 8) (next.place % 8) gone scan next levels item raw holding gave gone-is.1 gone-is.2
 
   -- the scanner holds the bits of the levels that are left
   pub holding-next : IsHolding next (drop gone levels)
-  holding-next =
-      let count = length-drop gone levels in
-      record {
-        held = rw (gave.left, holding.held) (rw (append-nil, append-nil) at (sym (bits-gone false [])));
-        placed = omega (arith, gone-is.1, gone-is.2, gave.there, length-held scan levels holding, length-grouped levels, length-grouped (drop gone levels), count, gone-there);
-        full = λ done. omega (arith, holding.full (sym gave.same ∙ done), gone-is.2, count, gone-there);
-      }
+  holding-next = holding-after (scan.place % 8) (next.place % 8) gone scan next levels item raw holding gave gone-is.1 gone-is.2
 
   -- what is written of it, and what is written after it
   module _ (gave_items : GaveItems) (ended : Bool) (new : List ℤ) (kept : List Bool) (all_there : scan.finished ≡ true → (ended ≡ true) × (new ≡ [])) where
-    none-behind : scan.finished ≡ true → hard_bits (scanned ended (ungrouped levels ++ new)) ≡ []
-    none-behind done =
-        let e = all_there done in
-        rw (ungrouped-none levels (holding.full done), e.1, e.0, filled-whole [] refl, hard_bits-none)
-
-    first-given : items_by ended scan.place (drop (scan.place % 8) (hard_bits (scanned ended (levels ++ new))))
-        ≡ item ∷ items_by ended next.place (drop (covered item) (drop (scan.place % 8) (hard_bits (scanned ended (levels ++ new)))))
-    first-given =
-        let more = hard_bits (scanned ended (ungrouped levels ++ new)) in
-        let bits = held-bits ended scan levels new holding in
-        rw (bits, drop-append-le (covered item) scan.held more gave.there, ← gave.left) (gave_items scan next item raw ended more gave (λ done. ((all_there done).0, none-behind done)))
-
-    raw-given : take (covered item) (drop (scan.place % 8) (hard_bits (scanned ended (levels ++ new)))) ≡ raw
-    raw-given =
-        rw (held-bits ended scan levels new holding, take-append-le (covered item) scan.held (hard_bits (scanned ended (ungrouped levels ++ new))) gave.there, gave.raw_bits)
-
     -- its levels are among those of whole groups
     softened-given : item_softened (first_level scan.place) (scanned ended (levels ++ new)) item raw ≡ item_softened (first_level scan.place) levels item raw
     softened-given =
         let at = place_of item / 2 - first_level scan.place in
         let count = covered item / 2 in
-        let inside : at + count ≤ length (grouped levels) = omega (arith, (place-given scan next item raw gave).0, gave.there, length-held scan levels holding) in
+        let inside : at + count ≤ length (grouped levels) = omega (arith, (place-given scan next item raw gave).0, gave.there, length-held (scan.place % 8) scan levels holding) in
         let one : part at count (scanned ended (levels ++ new)) ≡ part at count (grouped levels)
         = rw (scanned-split ended levels new, part_left at count (grouped levels) (scanned ended (ungrouped levels ++ new)) inside) in
         let two = rw grouped-ungrouped at (part_left at count (grouped levels) (ungrouped levels) inside) in
@@ -188,20 +126,26 @@ module _ (scan next : Scan) (levels : List ℤ) (item : Item) (raw : List Bool) 
         (items_by ended next.place (drop (next.place % 8) (hard_bits (scanned ended (drop gone levels ++ new)))))
         (drop (next.place % 8) (hard_bits (scanned ended (drop gone levels ++ new))))
     behind-given =
+        let ahead = scan.place % 8 in
+        let after = next.place % 8 in
         let all = scanned ended (levels ++ new) in
         let rest = drop (covered item) (drop (scan.place % 8) (hard_bits all)) in
         changed-alike (item_softened (first_level scan.place) all) (item_softened (first_level next.place) (scanned ended (drop gone levels ++ new))) next.place
         (λ later bits late.
         let there : first_level scan.place + gone ≤ place_of later / 2 = omega (arith, gone-is.0, late) in
-        rw (softened-later later (first_level scan.place) gone all bits there, gone-is.0, scanned-gone ended new))
+        rw (softened-later later (first_level scan.place) gone all bits there, gone-is.0, scanned-gone ahead after gone scan next levels item raw holding gave gone-is.1 gone-is.2 ended new))
         (items_by ended next.place rest)
         ended next.place rest rest (omega arith) refl
-        ∙ rw (bits-gone ended new)
+        ∙ rw (bits-gone ahead after gone scan next levels item raw holding gave gone-is.1 gone-is.2 ended new)
 
     pub written-given : soft_written ended scan.place (levels ++ new) kept
         ≡ whole_octets (kept ++ item_softened (first_level scan.place) levels item raw)
         ++ soft_written ended next.place (drop gone levels ++ new) (unfilled (kept ++ item_softened (first_level scan.place) levels item raw))
     written-given =
+        let ahead = scan.place % 8 in
+        let after = next.place % 8 in
+        let first = first-given ahead after gone scan next levels item raw holding gave gone-is.1 gone-is.2 gave_items ended new all_there in
+        let own_bits = raw-given ahead after gone scan next levels item raw holding gave gone-is.1 gone-is.2 gave_items ended new all_there in
         let all = scanned ended (levels ++ new) in
         let bits = drop (scan.place % 8) (hard_bits all) in
         let change = item_softened (first_level scan.place) all in
@@ -209,7 +153,7 @@ module _ (scan next : Scan) (levels : List ℤ) (item : Item) (raw : List Bool) 
         let left = drop gone levels ++ new in
         let rest = changed_bits (item_softened (first_level next.place) (scanned ended left))
         (items_by ended next.place (drop (next.place % 8) (hard_bits (scanned ended left)))) (drop (next.place % 8) (hard_bits (scanned ended left))) in
-        rw (first-given, written-cons change, raw-given, softened-given, behind-given, whole_octets-append (kept ++ own) rest, append_assoc)
+        rw (first, written-cons change, own_bits, softened-given, behind-given, whole_octets-append (kept ++ own) rest, append_assoc)
 
 -- a unit at the front of bits
 record IsUnitItem (place : ℕ) (bits : List Bool) (item : Item) : Type 0 where
@@ -259,7 +203,7 @@ heard-given scan next levels item raw holding gave yes' =
     let even : scan.place % 2 ≡ 0 = rw given_item.0 at parts.even in
     let place : scan.place % 8 ≡ 2 * at = omega arith in
     let twice : count ≡ 2 * half = omega arith in
-    let inside : at + half ≤ length (grouped levels) = omega (arith, there.3, length-held scan levels holding, place, twice) in
+    let inside : at + half ≤ length (grouped levels) = omega (arith, there.3, length-held (scan.place % 8) scan levels holding, place, twice) in
     let levels_of_item : item_levels item levels ≡ part at half levels = rw (given_item.0, covers) in
     let bits : take count scan.held ≡ hard_bits (part at half levels)
     = ap (take count) holding.held

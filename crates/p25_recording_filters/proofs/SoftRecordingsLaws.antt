@@ -1,5 +1,5 @@
 -- The progress of the work on a soft recording: levels come, an item is returned, the input ends.
-use Rattle.std.proofs.Common.{◌≡◌, ℕ, ◌+◌, ◌-◌, ◌%◌, ◌<◌, Bool, true, false, List, [], ◌++◌, length, drop, map, Some, Ok, refl, ap, sym, subst, arith, append_assoc, append-nil, length-drop, ℤ}
+use Rattle.std.proofs.Common.{◌≡◌, ℕ, ◌+◌, ◌-◌, ◌%◌, ◌<◌, ◌≤◌, Bool, true, false, List, [], ◌++◌, length, drop, map, Some, Ok, refl, ap, sym, subst, arith, append_assoc, append-nil, length-drop, ℤ}
 use Rattle.std.proofs.lemmas.List.{map-append}
 use Rattle.p25_units.specs.{declared.item.Item.{Item}, Items.{covered, place_of}, Units.{whole_octets}}
 use Rattle.p25_stream.specs.{Items.{items_by}, ItemLaws.{GaveItems}, Scan.{Scan, Gave, given}}
@@ -9,9 +9,9 @@ use Rattle.p25_soft.proofs.HardBitsLaws.{hard_bits-none}
 use Rattle.p25_filter.specs.{declared.ending.Ending.TheVariants.{Done}, Futures.{IsClosed, IsIdle, NextPiece, Progress}}
 use Rattle.p25_filter.proofs.LinesLaws.{Contains-none}
 use Rattle.p25_recording_filters.specs.{Commands.{unfilled}, ItemOutputs.{changed_bits}, SoftLevels.{filled, grouped, item_softened, octet_level}}
-use Rattle.p25_recording_filters.specs.Softs.{IsHolding, PutSoftItem, SoftParts, first_level, soft_future, soft_future_by}
-use Rattle.p25_recording_filters.proofs.{OctetsLaws.{whole_octets-few}, SoftLevelsLaws.{filled-whole, grouped-whole, length-filled}}
-use Rattle.p25_recording_filters.proofs.SoftItemLaws.{gone-there, place-given, written-given}
+use Rattle.p25_recording_filters.specs.Softs.{IsHolding, IsHoldingAfter, PutSoftItem, SoftParts, first_level, soft_future, soft_future_by}
+use Rattle.p25_recording_filters.proofs.{OctetsLaws.{whole_octets-few}, SoftLevelsLaws.{filled-whole, grouped-whole, length-filled, length-grouped}}
+use Rattle.p25_recording_filters.proofs.{HoldingLaws.{length-held, place-given}, SoftItemLaws.{gone-there, written-given}}
 
 -- levels come
 pub step-push : (before now : SoftParts) (octets : List ℕ) → before.scan.finished ≡ false → now.scan.finished ≡ false → now.scan.place ≡ before.scan.place
@@ -133,3 +133,11 @@ PutSoftItem-from before now out item raw holding gave piece behind left =
       behind = rw place at behind;
       left = rw (next, place) at left;
     }
+
+-- the levels that are held are fewer than their most
+pub room-held : (scan : Scan) (levels : List ℤ) (count : ℕ) → IsHolding scan levels → count ≡ length scan.held → count ≤ 25927 → length levels < 16420
+room-held scan levels count holding is most = omega (arith, is, most, length-held (scan.place % 8) scan levels holding, length-grouped levels)
+
+-- levels come
+pub holding-push : (scan next : Scan) (levels now : List ℤ) → IsHolding scan levels → next.place ≡ scan.place → ((ahead : ℕ) → IsHoldingAfter ahead scan levels → IsHoldingAfter ahead next now) → IsHolding next now
+holding-push scan next levels now holding place comes = subst (λ p. IsHoldingAfter (p % 8) next now) (sym place) (comes (scan.place % 8) holding)

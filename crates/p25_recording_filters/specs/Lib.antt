@@ -4,3 +4,4 @@ pub mod SoftLevels
 pub mod ItemOutputs
 pub mod Commands
 pub mod Softs
+pub mod Decides

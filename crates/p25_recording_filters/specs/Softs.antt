@@ -44,11 +44,15 @@ soft_future_by true work = record {
 unfoldable pub soft_future : SoftParts → Future
 soft_future work = soft_future_by work.scan.finished work
 
--- a scanner holds the bits of whole groups of levels, and once the input has ended there are no other levels
-pub record IsHolding (scan : Scan) (levels : List ℤ) : Type 0 where
-  pub held : scan.held ≡ drop (scan.place % 8) (hard_bits (grouped levels))
-  pub placed : scan.place % 8 ≤ 2 * length (grouped levels)
+-- a scanner holds the bits of whole groups of levels after so many first ones, and once the input has ended there are no other levels
+pub record IsHoldingAfter (ahead : ℕ) (scan : Scan) (levels : List ℤ) : Type 0 where
+  pub held : scan.held ≡ drop ahead (hard_bits (grouped levels))
+  pub placed : ahead ≤ 2 * length (grouped levels)
   pub full : scan.finished ≡ true → length levels % 4 ≡ 0
+
+-- the levels are those from the group of the scanner's position on
+abbrev pub IsHolding : Scan → List ℤ → Type 0
+IsHolding scan levels = IsHoldingAfter (scan.place % 8) scan levels
 
 -- an item is a broken packet (PDU) that begins at an even position
 abbrev pub is_even_packet : Item → Bool

@@ -1,15 +1,16 @@
 //! The levels of the bits that a scanner holds.
 
-ghost use Rattle.std.specs.Prelude.{◌≡◌, ◌+◌, ◌<◌, ◌≤◌, [], ◌∷◌, ◌++◌, length, drop};
+ghost use Rattle.std.specs.Prelude.{◌≡◌, ◌+◌, ◌*◌, ◌/◌, ◌<◌, ◌≤◌, [], ◌∷◌, ◌++◌, length, drop};
 ghost use Rattle.p25_bits.specs.Bits.{part};
+ghost use Rattle.p25_recording_filters.specs.SoftLevels.{grouped};
 
 use arrayvec::ArrayVec;
 use std::marker::Model;
 
-// A list of at most 12,976 levels: more than one for each two of the bits that a scanner holds, and a group of four.
+// A list of at most 16,420 levels: one for each two of the bits that a scanner and a follower hold, and a group of four.
 #[derive(Drop)]
 pub(crate) struct HeldLevels {
-    levels: ArrayVec<i8, 12_976>,
+    levels: ArrayVec<i8, 16_420>,
 }
 
 impl Model for HeldLevels {
@@ -39,7 +40,7 @@ impl HeldLevels {
 
     // Appends a level.
     pub(crate) fn push(&mut self, level: i8)
-        requires { length self.old < 12976 }
+        requires { length self.old < 16420 }
         ensures list { self.new ≡ self.old ++ level ∷ [] }
         ensures len { length self.new ≡ length self.old + 1 }
     {
@@ -53,6 +54,14 @@ impl HeldLevels {
         ensures len { length result.now ≡ count }
     {
         &self.levels.as_slice()[at..at + count]
+    }
+
+    // Returns the levels in whole groups of four.
+    pub(crate) fn groups(&self) -> &[i8]
+        ensures list { result.now ≡ grouped self.now }
+        ensures len { length result.now ≡ 4 * (length self.now / 4) }
+    {
+        self.part(0, 4 * (self.len() / 4))
     }
 
     // Removes the first levels.

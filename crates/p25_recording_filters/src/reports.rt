@@ -10,4 +10,5 @@ pub use calls::Calls;
 pub use changed::{Change, Changed, put_behind, put_octets};
 pub use check::Check;
 pub use followed::Followed;
+pub(crate) use followed::put_item;
 pub use show::Show;

@@ -1,7 +1,9 @@
 //! The report of `follow`: the bits of the recording, with damaged syncs and NIDs restored.
 
-ghost use Rattle.std.specs.Prelude.{◌≡◌, ◌<◌, [], length};
-ghost use Rattle.p25_follow.specs.Following.{fresh_follow};
+ghost use Rattle.std.specs.Prelude.{◌≡◌, ◌<◌, ◌++◌, [], length};
+ghost use Rattle.p25_units.specs.Units.{whole_octets};
+ghost use Rattle.p25_follow.specs.Following.{fresh_follow, written_item};
+ghost use Rattle.p25_recording_filters.specs.Commands.{unfilled};
 
 use super::changed::{put_after, put_behind};
 use crate::report::Report;
@@ -78,6 +80,26 @@ impl Default for Followed {
     }
 }
 
+// Writes to `out` the octets that bits, and then the bits of an item unless it belongs to a stretch, fill after kept ones,
+// and keeps the bits that are left.
+pub(crate) fn put_item(
+    item: &Item,
+    bits: &BitBuf,
+    raw: &BitBuf,
+    kept: &mut BitBuf,
+    out: &mut Line,
+)
+    requires { length kept.old < 8 }
+    ensures octets { out.new ≡ whole_octets (kept.old ++ (bits.now ++ written_item item.now raw.now)) }
+    ensures kept { kept.new ≡ unfilled (kept.old ++ (bits.now ++ written_item item.now raw.now)) }
+    ensures few { length kept.new < 8 }
+{
+    put_behind(kept, bits, out);
+    if !is_rest(item) {
+        put_after(kept, raw, out);
+    }
+}
+
 impl Report for Followed {
     ghost use Rattle.std.specs.Prelude.{true};
     ghost use Rattle.std.proofs.lemmas.Bool.{true≢false};
@@ -93,10 +115,7 @@ impl Report for Followed {
 
     fn put(&mut self, item: &Item, raw: &mut BitBuf, out: &mut Line) {
         self.follower.take(item, raw, &mut self.room);
-        put_behind(&mut self.kept, &self.room, out);
-        if !is_rest(item) {
-            put_after(&mut self.kept, raw, out);
-        }
+        put_item(item, &self.room, raw, &mut self.kept, out);
     }
 
     fn close(&self, out: &mut Line) {

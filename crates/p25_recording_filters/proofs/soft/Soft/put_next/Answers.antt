@@ -1,9 +1,9 @@
-use Rattle.std.proofs.Common.{◌≡◌, ◌++◌, ◌+◌, ◌-◌, [], List, Bool, Option, Some, drop, ap, ap₂, ◌∙◌, subst, sym, arith, ℕ, ℤ}
+use Rattle.std.proofs.Common.{◌≡◌, ◌++◌, ◌+◌, ◌-◌, ◌%◌, [], List, Bool, Option, Some, drop, ap, ap₂, ◌∙◌, subst, sym, arith, ℕ, ℤ}
 use Rattle.std.specs.Prelude.{MatchOption}
 use Rattle.p25_units.specs.{declared.item.Item.{Item}, Items.{covered, place_of}, Units.{whole_octets}}
 use Rattle.p25_stream.specs.Scan.{Scan, Gave, given}
 use Rattle.p25_recording_filters.specs.{Commands.{unfilled}, SoftLevels.{item_softened}, Softs.{IsHolding, PutSoftItem, SoftParts, first_level}}
-use Rattle.p25_recording_filters.proofs.{SoftLevelsLaws.{length-grouped}, SoftItemLaws.{gone-given, heard-given, holding-next, length-held, place-given}}
+use Rattle.p25_recording_filters.proofs.{SoftLevelsLaws.{length-grouped}, HoldingLaws.{length-held, place-given}, SoftItemLaws.{gone-given, heard-given, holding-next}}
 use Rattle.p25_recording_filters.proofs.SoftRecordingsLaws.{PutSoftItem-from, step-size}
 use Rattle.p25_recording_filters.proofs.soft.Soft.put_next.Goals as goal
 
@@ -30,7 +30,7 @@ overflow_add-behind c =
       arith,
       (place-given s.scanner c.next.new.self c.in-Some.item c.next.new.raw gave).0,
       gave.there,
-      length-held s.scanner s.levels c.self.invariant.0,
+      length-held (s.scanner.place % 8) s.scanner s.levels c.self.invariant.0,
       length-grouped s.levels,
       c.self.invariant.2,
       c.place-place.ensures,

@@ -1,45 +1,25 @@
-use Rattle.std.proofs.Common.{◌≡◌, Bool, List, ◌++◌, ap₂, sym, subst, ◌∙◌}
+use Rattle.std.proofs.Common.{◌≡◌, Bool, List, ◌++◌, ap, ap₂, subst, ◌∙◌}
 use Rattle.p25_units.specs.Units.{whole_octets}
-use Rattle.p25_follow.specs.Following.{Follow, behind_item}
+use Rattle.p25_follow.specs.Following.{Follow, behind_item, written_item}
 use Rattle.p25_recording_filters.specs.Commands.{FollowedParts, followed_item, unfilled}
-use Rattle.p25_recording_filters.proofs.FollowedLaws.{kept-rest, kept-unit, piece-rest, piece-unit}
 use Rattle.p25_recording_filters.proofs.reports.followed.FollowedReport.put.Goals as goal
 
 abbrev parts : Follow → List Bool → FollowedParts
 parts follower kept = record { follower = follower; kept = kept }
 
-pub returns-then-not-is_rest-clause-piece : goal.returns-then-not-is_rest-clause-piece
-returns-then-not-is_rest-clause-piece c =
+pub returns-clause-piece : goal.returns-clause-piece
+returns-clause-piece c =
     let s = c.self.inside in
     let item = c.args.item.now in
     let raw = c.args.raw.now in
-    subst (λ (r : FollowedParts). c.put_after.new.out ≡ whole_octets (r.kept ++ followed_item r.follower item raw)) c.self.view_is
-    (piece-unit s.follower s.kept raw item c.take.new.out c.put_behind.new.kept c.put_behind.new.out c.put_after.new.out (sym c.is_rest.ensures ∙ c.if-not-is_rest.true)
-    c.take.ensures.out c.put_behind.ensures.octets c.put_behind.ensures.kept c.put_after.ensures.octets)
+    subst (λ (r : FollowedParts). c.put_item.new.out ≡ whole_octets (r.kept ++ followed_item r.follower item raw)) c.self.view_is
+    (c.put_item.ensures.octets ∙ ap (λ (xs : List Bool). whole_octets (s.kept ++ (xs ++ written_item item raw))) c.take.ensures.out)
 
-pub returns-then-not-is_rest-clause-behind : goal.returns-then-not-is_rest-clause-behind
-returns-then-not-is_rest-clause-behind c =
+pub returns-clause-behind : goal.returns-clause-behind
+returns-clause-behind c =
     let s = c.self.inside in
     let item = c.args.item.now in
     let raw = c.args.raw.now in
-    subst (λ (r : FollowedParts). parts c.take.new.self c.put_after.new.kept ≡ parts (behind_item r.follower item raw) (unfilled (r.kept ++ followed_item r.follower item raw))) c.self.view_is
+    subst (λ (r : FollowedParts). parts c.take.new.self c.put_item.new.kept ≡ parts (behind_item r.follower item raw) (unfilled (r.kept ++ followed_item r.follower item raw))) c.self.view_is
     (ap₂ parts c.take.ensures.behind
-    (kept-unit s.follower s.kept raw item c.take.new.out c.put_behind.new.kept c.put_after.new.kept (sym c.is_rest.ensures ∙ c.if-not-is_rest.true) c.take.ensures.out
-    c.put_behind.ensures.kept c.put_after.ensures.kept))
-
-pub returns-else-not-is_rest-clause-piece : goal.returns-else-not-is_rest-clause-piece
-returns-else-not-is_rest-clause-piece c =
-    let s = c.self.inside in
-    let item = c.args.item.now in
-    let raw = c.args.raw.now in
-    subst (λ (r : FollowedParts). c.put_behind.new.out ≡ whole_octets (r.kept ++ followed_item r.follower item raw)) c.self.view_is
-    (piece-rest s.follower s.kept raw item c.take.new.out c.put_behind.new.out (sym c.is_rest.ensures ∙ c.if-not-is_rest.false) c.take.ensures.out c.put_behind.ensures.octets)
-
-pub returns-else-not-is_rest-clause-behind : goal.returns-else-not-is_rest-clause-behind
-returns-else-not-is_rest-clause-behind c =
-    let s = c.self.inside in
-    let item = c.args.item.now in
-    let raw = c.args.raw.now in
-    subst (λ (r : FollowedParts). parts c.take.new.self c.put_behind.new.kept ≡ parts (behind_item r.follower item raw) (unfilled (r.kept ++ followed_item r.follower item raw))) c.self.view_is
-    (ap₂ parts c.take.ensures.behind
-    (kept-rest s.follower s.kept raw item c.take.new.out c.put_behind.new.kept (sym c.is_rest.ensures ∙ c.if-not-is_rest.false) c.take.ensures.out c.put_behind.ensures.kept))
+    (c.put_item.ensures.kept ∙ ap (λ (xs : List Bool). unfilled (s.kept ++ (xs ++ written_item item raw))) c.take.ensures.out))

@@ -1,14 +1,14 @@
-use Rattle.std.proofs.Common.{rules, ◌≡◌, ◌≢◌, ◌+◌, ◌%◌, ◌^◌, ◌<◌, [], ◌∷◌, ◌++◌, List, length, map, take, get_or, refl, ap, sym, ◌∙◌, arith, append_assoc, append-nil, length-append, ℤ, FitsSigned, to_z, of_z, w8}
+use Rattle.std.proofs.Common.{rules, ◌≡◌, ◌≢◌, ◌+◌, ◌%◌, ◌^◌, ◌<◌, [], ◌∷◌, ◌++◌, List, length, map, take, get_or, refl, ap, sym, subst, ◌∙◌, arith, append_assoc, append-nil, length-append, ℤ, FitsSigned, to_z, of_z, w8}
 use Rattle.std.proofs.lemmas.{Int.{to_z-of_z}, List.{map-append, take_more}}
 use Rattle.p25_stream.specs.Scan.{Scan, given}
-use Rattle.p25_recording_filters.specs.{SoftLevels.{octet_level}, Softs.{first_level}}
-use Rattle.p25_recording_filters.proofs.soft.hear_some.Goals as goal
+use Rattle.p25_recording_filters.specs.SoftLevels.{octet_level}
+use Rattle.p25_recording_filters.proofs.hearing.hear_some.Goals as goal
 
 pub loop-i-init : goal.loop-i-init
 loop-i-init c = record {
   list = sym (append-nil c.args.levels.now);
   len = omega arith;
-  holding = c.requires.holding;
+  holding = λ ahead holding. holding;
   place = refl;
   going = c.requires.going;
   same = λ open_group. refl;
@@ -18,10 +18,10 @@ pub hear-requires-clause-drained : goal.hear-requires-clause-drained
 hear-requires-clause-drained c = ap (λ (s : Scan). given s) (c.loop-i.invariant.same c.loop-i-test.true) ∙ c.requires.drained
 
 pub hear-requires-clause-few : goal.hear-requires-clause-few
-hear-requires-clause-few c =
-    let few : first_level c.loop-i.scanner.place + length c.loop-i.levels < 2 ^ 29
-    = omega (arith, c.loop-i.invariant.place, c.loop-i.invariant.len, c.requires.few, c.loop-i-test.true) in
-    few
+hear-requires-clause-few c = subst (λ (s : Scan). s.place + length s.held < 2 ^ 60) (sym (c.loop-i.invariant.same c.loop-i-test.true)) c.requires.few
+
+pub hear-requires-clause-room : goal.hear-requires-clause-room
+hear-requires-clause-room c = omega (arith, c.loop-i.invariant.len, c.requires.room, c.loop-i-test.true, c.len.ensures)
 
 pub loop-i-preserved : goal.loop-i-preserved
 unfolding octet_level
@@ -46,7 +46,7 @@ loop-i-preserved c =
           ∙ append_assoc levels (map octet_level (take i octets)) (level ∷ [])
           ∙ ap (λ (ls : List ℤ). levels ++ ls) (sym more);
       len = count;
-      holding = c.hear.ensures.holding;
+      holding = λ ahead holding. c.hear.ensures.holding ahead (inv.holding ahead holding);
       place = c.hear.ensures.place ∙ inv.place;
       going = c.hear.ensures.going;
       same = λ further.

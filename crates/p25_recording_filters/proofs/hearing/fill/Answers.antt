@@ -1,14 +1,14 @@
-use Rattle.std.proofs.Common.{◌≡◌, ◌≢◌, ◌+◌, ◌-◌, ◌%◌, ◌^◌, ◌<◌, [], ◌∷◌, ◌++◌, List, length, replicate, refl, ap, sym, ◌∙◌, arith, append_assoc, append-nil, length-append, ℤ, pos}
+use Rattle.std.proofs.Common.{◌≡◌, ◌≢◌, ◌+◌, ◌-◌, ◌%◌, ◌^◌, ◌<◌, [], ◌∷◌, ◌++◌, List, length, replicate, refl, ap, sym, subst, ◌∙◌, arith, append_assoc, append-nil, length-append, ℤ, pos}
 use Rattle.std.proofs.lemmas.List.{replicate-append-replicate}
 use Rattle.p25_stream.specs.Scan.{Scan, given}
-use Rattle.p25_recording_filters.specs.{SoftLevels.{filled}, Softs.{first_level}}
-use Rattle.p25_recording_filters.proofs.soft.fill.Goals as goal
+use Rattle.p25_recording_filters.specs.SoftLevels.{filled}
+use Rattle.p25_recording_filters.proofs.hearing.fill.Goals as goal
 
 pub loop-filled-init : goal.loop-filled-init
 loop-filled-init c = record {
   list = sym (append-nil c.args.levels.now);
   len = omega arith;
-  holding = c.requires.holding;
+  holding = λ ahead holding. holding;
   place = refl;
   going = c.requires.going;
   same = λ open_group. refl;
@@ -20,14 +20,11 @@ hear-requires-clause-drained c = ap (λ (s : Scan). given s) (c.loop-filled.inva
 pub hear-requires-clause-going : goal.hear-requires-clause-going
 hear-requires-clause-going c = c.loop-filled.invariant.going
 
-pub hear-requires-clause-holding : goal.hear-requires-clause-holding
-hear-requires-clause-holding c = c.loop-filled.invariant.holding
-
 pub hear-requires-clause-few : goal.hear-requires-clause-few
-hear-requires-clause-few c =
-    let few : first_level c.loop-filled.scanner.place + length c.loop-filled.levels < 2 ^ 29
-    = omega (arith, c.loop-filled.invariant.place, c.loop-filled.invariant.len, c.requires.few, c.loop-filled-test.true) in
-    few
+hear-requires-clause-few c = subst (λ (s : Scan). s.place + length s.held < 2 ^ 60) (sym (c.loop-filled.invariant.same c.loop-filled-test.true)) c.requires.few
+
+pub hear-requires-clause-room : goal.hear-requires-clause-room
+hear-requires-clause-room c = omega (arith, c.loop-filled.invariant.len, c.requires.room, c.loop-filled-test.true, c.len.ensures)
 
 pub loop-filled-preserved : goal.loop-filled-preserved
 loop-filled-preserved c =
@@ -43,7 +40,7 @@ loop-filled-preserved c =
           ∙ append_assoc levels (replicate i (pos 32)) (pos 32 ∷ [])
           ∙ ap (λ (ls : List ℤ). levels ++ ls) (replicate-append-replicate i 1 (pos 32));
       len = count;
-      holding = c.hear.ensures.holding;
+      holding = λ ahead holding. c.hear.ensures.holding ahead (inv.holding ahead holding);
       place = c.hear.ensures.place ∙ inv.place;
       going = c.hear.ensures.going;
       same = λ more.

@@ -1,7 +1,7 @@
 use Rattle.std.proofs.{Common.{rules, get_or, refl, ap, ◌∙◌, FitsSigned, w8, pos}, lemmas.Int.{to_z-of_z}}
 use Rattle.p25_soft.specs.Levels.{hard_dibit}
 use Rattle.p25_recording_filters.proofs.SoftHearingLaws.{group-bits}
-use Rattle.p25_recording_filters.proofs.soft.group_octet.Goals as goal
+use Rattle.p25_recording_filters.proofs.hearing.group_octet.Goals as goal
 
 pub returns : goal.returns
 returns c =
