@@ -1,10 +1,11 @@
--- The effect of the damage of codewords on a list of bits: if the codewords are disjoint, each differs in at most as many bits as are inverted, and
--- the bits outside them are unchanged. By recursion on the codewords: a later one begins after an earlier one.
-use Rattle.std.proofs.Common.{◌≡◌, ℕ, zero, suc, ◌+◌, ◌<◌, ◌≤◌, ◌⊎◌, inl, inr, Bool, true, ◌&&◌, nat_le, List, [], ◌∷◌, ◌++◌, length, take, drop, get_or, refl, ap, sym, subst, ◌∙◌, arith}
+-- The effect of hits on a list of bits: if they are disjoint, each differs in at most as many bits as are inverted, and the bits outside them are
+-- unchanged. By recursion on the hits: a later one begins after an earlier one.
+use Rattle.std.proofs.Common.{◌≡◌, ℕ, zero, suc, ◌+◌, ◌<◌, ◌≤◌, ◌⊎◌, inl, inr, Bool, true, ◌&&◌, nat_le, List, [], ◌∷◌, length, map, take, drop, refl, ap, ap₂, sym, ◌∙◌, arith}
+use Rattle.std.specs.List.{AllByRecursion as Each}
 use Rattle.std.proofs.lemmas.Bool.{and_parts, leb-true}
 use Rattle.p25_bits.specs.{Bits.{part, flipped}, Distance.{distance_of}}
 use Rattle.p25_bits.proofs.{BitsLaws.{length-flipped}, PartLaws.{part-take}, DistanceLaws.{distance_of-same, distance_of-triangle, distance_of-part, distance_of-flipped}}
-use Rattle.p25_vectors.specs.Damage.{inverted, damaged}
+use Rattle.p25_vectors.specs.Damage.{Hit, inverted, damaged}
 
 -- One bit inverted.
 
@@ -63,128 +64,64 @@ part-inverted at count from size bits (inr before) =
     ∙ ap (λ (xs : List Bool). part from size xs) (take-inverted at count (from + size) bits before)
     ∙ part-take from size (from + size) bits (omega arith)
 
--- Words.
+-- Hits.
 
-pub no_word : ℕ × ℕ
-no_word = (0, 0)
+-- the position of a hit and its number of bits
+abbrev pub word_of : Hit → ℕ × ℕ
+word_of hit = (hit.0, hit.1)
 
--- words lie apart, in order, from a place on
-pub record AreApart (from : ℕ) (words : List (ℕ × ℕ)) : Type 0 where
-  pub behind : (k : ℕ) → k < length words → from ≤ (get_or words k no_word).0
-  pub apart : (i k : ℕ) → i < k → k < length words → (get_or words i no_word).0 + (get_or words i no_word).1 ≤ (get_or words k no_word).0
+-- no more bits are inverted than it has
+abbrev pub IsFit : Hit → Type 0
+IsFit hit = hit.2 ≤ hit.1
 
--- there is a count for each word, and no more bits of it
-unfoldable pub AreCounts : List (ℕ × ℕ) → List ℕ → Type 0
-AreCounts [] [] = Unit {0}
-AreCounts [] (count ∷ counts) = ⊥
-AreCounts (word ∷ words) [] = ⊥
-AreCounts (word ∷ words) (count ∷ counts) = (count ≤ word.1) × AreCounts words counts
+-- the inverted bits lie outside of a part
+abbrev pub IsOutside : ℕ → ℕ → Hit → Type 0
+IsOutside at size hit = (hit.0 + hit.2 ≤ at) ⊎ (at + size ≤ hit.0)
 
-pub AreApart-none : (from : ℕ) → AreApart from []
-AreApart-none from = record { behind = λ k h. absurd (omega arith); apart = λ i k h there. absurd (omega arith) }
+-- received bits differ there in no more bits than are inverted
+abbrev pub IsNearAt : List Bool → List Bool → Hit → Type 0
+IsNearAt sent received hit = distance_of (part hit.0 hit.1 received) (part hit.0 hit.1 sent) ≤ hit.2
 
-pub AreApart-cons : (from at size : ℕ) (words : List (ℕ × ℕ)) → from ≤ at → AreApart (at + size) words → AreApart from ((at, size) ∷ words)
-AreApart-cons from at size words first rest = record { behind = behind; apart = apart }
-  where
-    all : List (ℕ × ℕ)
-    all = (at, size) ∷ words
-
-    behind : (k : ℕ) → k < length all → from ≤ (get_or all k no_word).0
-    behind zero h = first
-    behind (suc k) h = omega (arith, first, rest.behind k (omega arith))
-
-    apart : (i k : ℕ) → i < k → k < length all → (get_or all i no_word).0 + (get_or all i no_word).1 ≤ (get_or all k no_word).0
-    apart i zero less h = absurd (omega arith)
-    apart zero (suc k) less h = rest.behind k (omega arith)
-    apart (suc i) (suc k) less h = rest.apart i k (omega arith) (omega arith)
-
--- words that lie apart after a place: so do those after the first
-AreApart-tail : (from : ℕ) (word : ℕ × ℕ) (words : List (ℕ × ℕ)) → AreApart from (word ∷ words) → AreApart (word.0 + word.1) words
-AreApart-tail from word words is = record {
-  behind = λ k h. is.apart 0 (suc k) (omega arith) (omega arith);
-  apart = λ i k less h. is.apart (suc i) (suc k) (omega arith) (omega arith);
-}
-
--- a test of words that are written out
+-- a test of words that are written out: they are disjoint, in order, from a position on
 unfoldable pub rising : ℕ → List (ℕ × ℕ) → Bool
 rising from [] = true
 rising from (word ∷ words) = nat_le from word.0 && rising (word.0 + word.1) words
 
-pub AreApart-rising : (from : ℕ) (words : List (ℕ × ℕ)) → rising from words ≡ true → AreApart from words
+pub length-damaged : (hits : List Hit) (bits : List Bool) → length (damaged hits bits) ≡ length bits
+unfolding damaged
+length-damaged [] bits = refl
+length-damaged (hit ∷ hits) bits = length-damaged hits (inverted hit.0 hit.2 bits) ∙ length-inverted hit.0 hit.2 bits
+
+pub part-damaged : (at size : ℕ) (hits : List Hit) (bits : List Bool) → Each (IsOutside at size) hits → part at size (damaged hits bits) ≡ part at size bits
+unfolding damaged
+part-damaged at size [] bits outside = refl
+part-damaged at size (hit ∷ hits) bits outside =
+    part-damaged at size hits (inverted hit.0 hit.2 bits) outside.1 ∙ part-inverted hit.0 hit.2 at size bits outside.0
+
+later-outside : (at size from : ℕ) (hits : List Hit) → at + size ≤ from → rising from (map word_of hits) ≡ true → Each (IsOutside at size) hits
 unfolding rising
-AreApart-rising from [] test = AreApart-none from
-AreApart-rising from ((at, size) ∷ words) test =
-    let parts = and_parts (nat_le from at) (rising (at + size) words) test in
-    AreApart-cons from at size words (leb-true from at parts.0) (AreApart-rising (at + size) words parts.1)
+later-outside at size from [] before test = tt
+later-outside at size from (hit ∷ hits) before test =
+    let parts = and_parts (nat_le from hit.0) (rising (hit.0 + hit.1) (map word_of hits)) test in
+    let begins : at + size ≤ hit.0 = omega (arith, before, leb-true from hit.0 parts.0) in
+    (inr begins, later-outside at size (hit.0 + hit.1) hits (omega (arith, begins)) parts.1)
 
--- damage keeps the number of bits
-pub length-damaged : (words : List (ℕ × ℕ)) (counts : List ℕ) (bits : List Bool) → length (damaged words counts bits) ≡ length bits
-unfolding damaged
-length-damaged (word ∷ words) (count ∷ counts) bits = length-damaged words counts (inverted word.0 count bits) ∙ length-inverted word.0 count bits
-length-damaged words counts bits = refl
-
-pub damaged-append : (words more : List (ℕ × ℕ)) (counts others : List ℕ) (bits : List Bool) → length counts ≡ length words
-    → damaged (words ++ more) (counts ++ others) bits ≡ damaged more others (damaged words counts bits)
-unfolding damaged
-damaged-append [] more [] others bits e = refl
-damaged-append (word ∷ words) more (count ∷ counts) others bits e = damaged-append words more counts others (inverted word.0 count bits) (omega arith)
-damaged-append words more counts others bits e = absurd (omega arith)
-
-pub damaged-none : (counts : List ℕ) (bits : List Bool) → damaged [] counts bits ≡ bits
-unfolding damaged
-damaged-none counts bits = refl
-
-pub damaged-one : (word : ℕ × ℕ) (count : ℕ) (bits : List Bool) → damaged (word ∷ []) (count ∷ []) bits ≡ inverted word.0 count bits
-unfolding damaged
-damaged-one word count bits = refl
-
--- what stands outside the words is unchanged
-pub part-damaged : (words : List (ℕ × ℕ)) (counts : List ℕ) (bits : List Bool) (from size : ℕ) → AreCounts words counts
-    → ((k : ℕ) → k < length words → ((get_or words k no_word).0 + (get_or words k no_word).1 ≤ from) ⊎ (from + size ≤ (get_or words k no_word).0))
-    → part from size (damaged words counts bits) ≡ part from size bits
-unfolding damaged AreCounts
-part-damaged (word ∷ words) (count ∷ counts) bits from size fit outside =
-    part-damaged words counts (inverted word.0 count bits) from size fit.1 (λ k h. outside (suc k) (omega arith))
-    ∙ part-inverted word.0 count from size bits (first (outside 0 (omega arith)))
-  where
-    first : (word.0 + word.1 ≤ from) ⊎ (from + size ≤ word.0) → (word.0 + count ≤ from) ⊎ (from + size ≤ word.0)
-    first (inl behind) = inl (omega (arith, behind, fit.0))
-    first (inr before) = inr before
-part-damaged words counts bits from size fit outside = refl
-
--- and each word differs in no more bits than are inverted of it
-pub distance-damaged : (from : ℕ) (words : List (ℕ × ℕ)) (counts : List ℕ) (bits : List Bool) (i : ℕ) → AreApart from words → AreCounts words counts → i < length words
-    → distance_of (part (get_or words i no_word).0 (get_or words i no_word).1 (damaged words counts bits)) (part (get_or words i no_word).0 (get_or words i no_word).1 bits) ≤ get_or counts i 0
-unfolding damaged AreCounts
-distance-damaged from [] counts bits i apart fit h = absurd (omega arith)
-distance-damaged from (word ∷ words) [] bits i apart fit h = absurd fit
-distance-damaged from (word ∷ words) (count ∷ counts) bits zero apart fit h =
-    let first = inverted word.0 count bits in
-    let later = part-damaged words counts first word.0 word.1 fit.1 (λ k there. inr (apart.apart 0 (suc k) (omega arith) (omega arith))) in
-    omega (
-      arith,
-      ap (λ (xs : List Bool). distance_of xs (part word.0 word.1 bits)) later,
-      distance_of-part word.0 word.1 first bits (length-inverted word.0 count bits),
-      distance-inverted word.0 count bits,
+-- bits that were damaged before a position, and hits from there on
+pub near-damaged : (from : ℕ) (hits : List Hit) (bits sent : List Bool) → length bits ≡ length sent → ((k : ℕ) → from ≤ k → drop k bits ≡ drop k sent)
+    → rising from (map word_of hits) ≡ true → Each IsFit hits → Each (IsNearAt sent (damaged hits bits)) hits
+unfolding damaged rising
+near-damaged from [] bits sent long same test fits = tt
+near-damaged from (hit ∷ hits) bits sent long same test fits =
+    let first = inverted hit.0 hit.2 bits in
+    let parts = and_parts (nat_le from hit.0) (rising (hit.0 + hit.1) (map word_of hits)) test in
+    let begins = leb-true from hit.0 parts.0 in
+    let later = part-damaged hit.0 hit.1 hits first (later-outside hit.0 hit.1 (hit.0 + hit.1) hits (omega arith) parts.1) in (
+      omega (
+        arith,
+        ap₂ distance_of later (sym (ap (take hit.1) (same hit.0 begins))),
+        distance_of-part hit.0 hit.1 first bits (length-inverted hit.0 hit.2 bits),
+        distance-inverted hit.0 hit.2 bits,
+      ),
+      near-damaged (hit.0 + hit.1) hits first sent (length-inverted hit.0 hit.2 bits ∙ long)
+          (λ k h. drop-inverted hit.0 hit.2 k bits (omega (arith, h, fits.0)) ∙ same k (omega (arith, begins, h))) parts.1 fits.1,
     )
-distance-damaged from (word ∷ words) (count ∷ counts) bits (suc i) apart fit h =
-    let at = (get_or words i no_word).0 in
-    let size = (get_or words i no_word).1 in
-    let first = inverted word.0 count bits in
-    let before : word.0 + count ≤ at = omega (arith, fit.0, apart.apart 0 (suc i) (omega arith) (omega arith)) in
-    let rest = distance-damaged (word.0 + word.1) words counts first i (AreApart-tail from word words apart) fit.1 (omega arith) in
-    subst (λ (xs : List Bool). distance_of (part at size (damaged words counts first)) xs ≤ get_or counts i 0) (part-inverted word.0 count at size bits (inl before)) rest
-
--- Counts of joined words.
-
-pub AreCounts-append : (words more : List (ℕ × ℕ)) (counts others : List ℕ) → AreCounts words counts → AreCounts more others → AreCounts (words ++ more) (counts ++ others)
-unfolding AreCounts
-AreCounts-append [] more [] others first second = second
-AreCounts-append (word ∷ words) more (count ∷ counts) others first second = (first.0, AreCounts-append words more counts others first.1 second)
-AreCounts-append words more counts others first second = absurd first
-
-pub AreCounts-from : (words : List (ℕ × ℕ)) (counts : List ℕ) → length counts ≡ length words → ((i : ℕ) → i < length words → get_or counts i 0 ≤ (get_or words i no_word).1) → AreCounts words counts
-unfolding AreCounts
-AreCounts-from [] [] e each = tt
-AreCounts-from (word ∷ words) (count ∷ counts) e each = (each 0 (omega arith), AreCounts-from words counts (omega arith) (λ i h. each (suc i) (omega arith)))
-AreCounts-from words counts e each = absurd (omega arith)

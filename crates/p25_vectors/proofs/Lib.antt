@@ -1,6 +1,6 @@
 mod DrawsLaws
 mod BodiesLaws
 mod DamageLaws
-mod CountsLaws
+mod HitsLaws
 mod WithinLaws
 mod SampleLaws

@@ -1,8 +1,8 @@
 -- Damaged sample data units lie within the correction radius of their frames and decode to them. The damage is in codewords that their codes correct,
 -- so the voice frames and the status symbols are as transmitted.
-use Rattle.std.proofs.Common.{◌≡◌, ℕ, zero, suc, ◌+◌, ◌*◌, ◌/◌, ◌%◌, ◌<◌, ◌≤◌, ◌⊎◌, inl, inr, ◌&&◌, ◌||◌, Bool, true, nat_le, List, [], ◌∷◌, ◌++◌, length, take, drop, map, replicate, sum, Ok, refl, ap, ap₂, sym, subst, ◌∙◌, arith, length-drop, get_or}
+use Rattle.std.proofs.Common.{◌≡◌, ℕ, suc, ◌+◌, ◌*◌, ◌/◌, ◌%◌, ◌≤◌, ◌⊎◌, inl, inr, ◌&&◌, ◌||◌, Bool, true, nat_le, List, [], ◌∷◌, ◌++◌, length, take, drop, map, replicate, sum, Ok, refl, ap, ap₂, sym, subst, ◌∙◌, arith, length-drop}
 use Rattle.std.proofs.{lemmas.Bool.{and_parts, or_cases, leb-true}, lemmas.List.{length-replicate, length-take-le, take_at, drop_at, take-take, append-nil}, lemmas.List.Sums.{sum_by_push}}
-use Rattle.std.specs.{List.{list_all}, Option.{unwrap_or}}
+use Rattle.std.specs.{List.{list_all, AllByRecursion as Each}, Option.{unwrap_or}}
 use Rattle.p25_bits.specs.{Bits.{part}, Distance.{distance_of}, Numbers.{each_below, numbers_from}}
 use Rattle.p25_bits.proofs.{PartLaws.{drop-part, take-part}, NumbersLaws.{numbers_from-take, each_below-zero, each_below-more}}
 use Rattle.p25_status.specs.{Woven.{bare_of, statuses_of}, declared.symbols.Status.{Status}, Status.{status_modulo}}
@@ -10,9 +10,9 @@ use Rattle.p25_status.proofs.WovenLaws.{length-woven, bare_of-woven, statuses_of
 use Rattle.p25_unit_front.specs.Front.{front_of, identifier_bits}
 use Rattle.p25_unit_front.proofs.FrontLaws.{front_of-bare_of}
 use Rattle.p25_voice_units.specs.{declared.voice.VoiceFrame.{VoiceFrame}, declared.unit.VoiceUnit.{VoiceUnit}, declared.unit.VoiceUnit.TheVariants.{Link1, Link2}, FieldLayouts.{word_places}}
-use Rattle.p25_voice_units.specs.{Fixes.{wide, voice_looked, link_looked}, Images.{voice_image_of}, Layouts.{ldu_rows}, Lengths.{voice_duid, voice_length_of}}
+use Rattle.p25_voice_units.specs.{Fixes.{wide, link_looked}, Images.{voice_image_of}, Layouts.{ldu_rows}, Lengths.{voice_duid, voice_length_of}}
 use Rattle.p25_voice_units.specs.{Readings.{frame_places, frame_in, low_places, voice_in}, Sendable.{IsSendableVoice}}
-use Rattle.p25_units.specs.{Fixes.{body_looked}, Needs.{need_of}, Readings.{unit_reading_of}, UnitParts.{UnitParts}}
+use Rattle.p25_units.specs.{Needs.{need_of}, Readings.{unit_reading_of}, UnitParts.{UnitParts}}
 use Rattle.p25_units.specs.Units.{body_image_of, body_length, filled_frame, frame_length_of, image_of, unit_image_of, IsSendableBody, IsSendableUnit, IsSoundFrame, IsWholeBody}
 use Rattle.p25_units.specs.{WithinRadius.{IsBodyWithin, IsFrontWithin, IsWithinRadius, received_body, received_frame}, declared.unit.Body.{Body}, declared.unit.Body.TheVariants.{Voice, Packet}}
 use Rattle.p25_units.specs.{declared.frame.Frame.{Frame}, declared.needs.Need.TheVariants.{Length}}
@@ -21,31 +21,28 @@ use Rattle.p25_coded_fields.specs.Layouts.{places_from}
 use Rattle.p25_packet_blocks.specs.Image.{packet_image_of}
 use Rattle.p25_units.proofs.{ReadingsLaws.{IsVoiceImage-same}, UnitsLaws.{length-body_image_of, blocks-sound, symbols-image, length-image_of-blocks, bare_of-image_of}}
 use Rattle.p25_units.proofs.WithinRadiusLaws.{need_of-near, unit_reading_of-near}
-use Rattle.p25_vectors.specs.{Draws.{draw, state_after}, Damage.{damaged, body_counts, damaged_words, damage_counts, damage_draws}}
+use Rattle.p25_vectors.specs.{Draws.{draw, state_after}, Damage.{Hit, both, damaged, inversions, word_hits, link_hits, body_hits, unit_hits}}
 use Rattle.p25_vectors.specs.Samples.{frame_of, frame_next, damaged_image, damage_state, flips_of, sample_bits, sample_flips, sample_frame, state_before, state_behind_unit}
 use Rattle.p25_vectors.specs.{Bodies.{body_next, kind_of}, declared.bodies.Kind.{Kind}}
-use Rattle.p25_vectors.proofs.{BodiesLaws.{body_next-whole}, DamageLaws.{no_word, AreCounts, length-damaged, part-damaged}}
-use Rattle.p25_vectors.proofs.WithinLaws.{IsNearAt, voice-within, packet-within, words-fit, damaged-near, sync-near, identifier-near, body-near}
+use Rattle.p25_vectors.proofs.{BodiesLaws.{body_next-whole}, DamageLaws.{word_of, IsFit, IsOutside, IsNearAt, length-damaged, part-damaged}}
+use Rattle.p25_vectors.proofs.WithinLaws.{behind, voice-within, packet-within, link-words, unit-fit, unit-near, parts-near}
 
 -- Voice frames.
 
 -- a voice frame lies outside of words
-clear : List (ℕ × ℕ) → ℕ → Bool
-clear [] at = true
-clear (word ∷ words) at = (nat_le (word.0 + word.1) at || nat_le (at + 144) word.0) && clear words at
+clear : ℕ → List (ℕ × ℕ) → Bool
+clear at words = list_all (λ word. nat_le (word.0 + word.1) at || nat_le (at + 144) word.0) words
 
-clear-outside : (words : List (ℕ × ℕ)) (at : ℕ) → clear words at ≡ true → (k : ℕ) → k < length words
-    → ((get_or words k no_word).0 + (get_or words k no_word).1 ≤ at) ⊎ (at + 144 ≤ (get_or words k no_word).0)
+clear-outside : (at : ℕ) (hits : List Hit) → Each IsFit hits → clear at (map word_of hits) ≡ true → Each (IsOutside at 144) hits
 unfolding clear
-clear-outside [] at test k h = absurd (omega arith)
-clear-outside (word ∷ words) at test zero h =
-    let first = (and_parts (nat_le (word.0 + word.1) at || nat_le (at + 144) word.0) (clear words at) test).0 in
-    elim (or_cases (nat_le (word.0 + word.1) at) (nat_le (at + 144) word.0) first) [
-      | inl behind ↦ inl (leb-true (word.0 + word.1) at behind)
-      | inr before ↦ inr (leb-true (at + 144) word.0 before)
-    ]
-clear-outside (word ∷ words) at test (suc k) h =
-    clear-outside words at (and_parts (nat_le (word.0 + word.1) at || nat_le (at + 144) word.0) (clear words at) test).1 k (omega arith)
+clear-outside at [] fit test = tt
+clear-outside at (hit ∷ hits) fit test =
+    let parts = and_parts (nat_le (hit.0 + hit.1) at || nat_le (at + 144) hit.0) (clear at (map word_of hits)) test in
+    let first : IsOutside at 144 hit = elim (or_cases (nat_le (hit.0 + hit.1) at) (nat_le (at + 144) hit.0) parts.0) [
+      | inl behind ↦ inl (omega (arith, fit.0, leb-true (hit.0 + hit.1) at behind))
+      | inr before ↦ inr (leb-true (at + 144) hit.0 before)
+    ] in
+    (first, clear-outside at hits fit.1 parts.1)
 
 -- it is there
 frame-same : (at : ℕ) (sent received : List Bool) → at + 144 ≤ length sent → length received ≡ length sent → part at 144 received ≡ part at 144 sent → frame_in at received ≡ frame_in at sent
@@ -57,27 +54,21 @@ frame-same at sent received there long same =
     let second : 8 * 18 ≤ length (drop at sent) = omega (arith, length-drop at sent, there) in
     ap made (sym (numbers_from-take 8 18 144 (drop at received) inside first) ∙ ap (numbers_from 8 18) same ∙ numbers_from-take 8 18 144 (drop at sent) inside second)
 
-frames-same : (words : List (ℕ × ℕ)) (counts : List ℕ) (sent : List Bool) (places : List ℕ) → AreCounts words counts → length sent ≡ 1680
-    → list_all (λ at. nat_le (at + 144) 1680 && clear words at) places ≡ true
-    → map (λ at. frame_in at (damaged words counts sent)) places ≡ map (λ at. frame_in at sent) places
-frames-same words counts sent [] fit long test = refl
-frames-same words counts sent (at ∷ places) fit long test =
-    let parts = and_parts (nat_le (at + 144) 1680 && clear words at) (list_all (λ at. nat_le (at + 144) 1680 && clear words at) places) test in
-    let here = and_parts (nat_le (at + 144) 1680) (clear words at) parts.0 in
-    let same = part-damaged words counts sent at 144 fit (clear-outside words at here.1) in
+frames-same : (hits : List Hit) (sent : List Bool) (places : List ℕ) → Each IsFit hits → length sent ≡ 1680
+    → list_all (λ at. nat_le (at + 144) 1680 && clear at (map word_of hits)) places ≡ true
+    → map (λ at. frame_in at (damaged hits sent)) places ≡ map (λ at. frame_in at sent) places
+frames-same hits sent [] fit long test = refl
+frames-same hits sent (at ∷ places) fit long test =
+    let parts = and_parts (nat_le (at + 144) 1680 && clear at (map word_of hits)) (list_all (λ at. nat_le (at + 144) 1680 && clear at (map word_of hits)) places) test in
+    let here = and_parts (nat_le (at + 144) 1680) (clear at (map word_of hits)) parts.0 in
     let there : at + 144 ≤ length sent = omega (arith, leb-true (at + 144) 1680 here.0, long) in
     ap₂ (λ (x : VoiceFrame) (xs : List VoiceFrame). x ∷ xs)
-    (frame-same at sent (damaged words counts sent) there (length-damaged words counts sent) same)
-    (frames-same words counts sent places fit long parts.1)
+    (frame-same at sent (damaged hits sent) there (length-damaged hits sent) (part-damaged at 144 hits sent (clear-outside at hits fit here.1)))
+    (frames-same hits sent places fit long parts.1)
 
-frames-clear : list_all (λ at. nat_le (at + 144) 1680 && clear ((0, 48) ∷ (48, 63) ∷ link_looked) at) (frame_places ldu_rows) ≡ true
+frames-clear : list_all (λ at. nat_le (at + 144) 1680 && clear at ((0, 48) ∷ (48, 63) ∷ link_looked)) (frame_places ldu_rows) ≡ true
 unfolding clear frame_places link_looked wide word_places places_from low_places
 frames-clear = refl
-
-voice-same : (counts : List ℕ) (sent : List Bool) → AreCounts ((0, 48) ∷ (48, 63) ∷ link_looked) counts → length sent ≡ 1680
-    → voice_in (damaged ((0, 48) ∷ (48, 63) ∷ link_looked) counts sent) ≡ voice_in sent
-unfolding voice_in
-voice-same counts sent fit long = frames-same ((0, 48) ∷ (48, 63) ∷ link_looked) counts sent (frame_places ldu_rows) fit long frames-clear
 
 -- What a unit carries.
 
@@ -90,32 +81,33 @@ unfolding voice_length_of
 link_long voice (inl is) = ap (λ (d : ℕ). unwrap_or (voice_length_of d) 0) is
 link_long voice (inr is) = ap (λ (d : ℕ). unwrap_or (voice_length_of d) 0) is
 
-link-same : (voice : VoiceUnit) (state : ℕ) (sent : List Bool) → voice_looked voice ≡ link_looked → length sent ≡ 1680
-    → voice_in (damaged (damaged_words (Voice voice)) (damage_counts (Voice voice) state) sent) ≡ voice_in sent
-unfolding damaged_words
-link-same voice state sent is long =
-    let words : damaged_words (Voice voice) ≡ (0, 48) ∷ (48, 63) ∷ link_looked = ap (λ (ws : List (ℕ × ℕ)). (0, 48) ∷ (48, 63) ∷ ws) is in
-    let counts = damage_counts (Voice voice) state in
-    ap (λ (ws : List (ℕ × ℕ)). voice_in (damaged ws counts sent)) words
-    ∙ voice-same counts sent (subst (λ (ws : List (ℕ × ℕ)). AreCounts ws counts) words (words-fit (Voice voice) state)) long
+voice-same : (voice : VoiceUnit) (state : ℕ) (sent : List Bool) → map word_of (unit_hits (Voice voice) state).0 ≡ (0, 48) ∷ (48, 63) ∷ link_looked → length sent ≡ 1680
+    → voice_in (damaged (unit_hits (Voice voice) state).0 sent) ≡ voice_in sent
+unfolding voice_in
+voice-same voice state sent words long =
+    frames-same (unit_hits (Voice voice) state).0 sent (frame_places ldu_rows) (unit-fit (Voice voice) state) long (rw words frames-clear)
+
+unit-words : (most state : ℕ) → map word_of (both (both (word_hits 48 4 0 (0 ∷ [])) (word_hits 63 11 0 (48 ∷ []))) (link_hits most) state).0 ≡ (0, 48) ∷ (48, 63) ∷ link_looked
+unfolding word_hits
+unit-words most state = ap (λ words. (0, 48) ∷ (48, 63) ∷ words) (link-words most (state_after 1 (state_after 1 state)))
 
 received-same : (nac : ℕ) (body : Body) (state : ℕ) → IsSendableBody body
-    → received_body body (damaged (damaged_words body) (damage_counts body state) (body_image_of nac body)) ≡ body
-unfolding IsSendableBody voice_looked
+    → received_body body (damaged (unit_hits body state).0 (body_image_of nac body)) ≡ body
+unfolding IsSendableBody unit_hits body_hits
 received-same nac (Voice (Link1 link low voice)) state sendable =
     let unit = Link1 link low voice in
     let sent = voice_image_of nac unit in
-    let same = link-same unit state sent refl (long-link nac unit sendable (link_long unit (inl refl))) in
+    let same = voice-same unit state sent (unit-words 6 state) (long-link nac unit sendable (link_long unit (inl refl))) in
     ap (λ (v : List VoiceFrame). Voice (Link1 link low v)) same ∙ ap Voice (received_itself nac unit sent sendable (IsVoiceImage-same nac unit sendable))
 received-same nac (Voice (Link2 sync low voice)) state sendable =
     let unit = Link2 sync low voice in
     let sent = voice_image_of nac unit in
-    let same = link-same unit state sent refl (long-link nac unit sendable (link_long unit (inr refl))) in
+    let same = voice-same unit state sent (unit-words 4 state) (long-link nac unit sendable (link_long unit (inr refl))) in
     ap (λ (v : List VoiceFrame). Voice (Link2 sync low v)) same ∙ ap Voice (received_itself nac unit sent sendable (IsVoiceImage-same nac unit sendable))
 received-same nac body state sendable = refl
 
 body-within : (nac : ℕ) (body : Body) (state : ℕ) (received : List Bool) → IsSendableBody body → length received ≡ length (body_image_of nac body)
-    → IsNearAt (body_looked body) (body_counts body state) (body_image_of nac body) received → IsBodyWithin body (body_image_of nac body) received
+    → Each (IsNearAt (body_image_of nac body) received) (body_hits body state).0 → IsBodyWithin body (body_image_of nac body) received
 unfolding IsSendableBody IsBodyWithin
 body-within nac (Voice voice) state received sendable long is =
     within_from_words nac voice (voice_image_of nac voice) received (IsVoiceImage-same nac voice sendable) long (voice-within voice state (voice_image_of nac voice) received is)
@@ -143,11 +135,11 @@ module _ (frame : Frame) (sound : IsSoundFrame frame) (sendable : IsSendableUnit
   sent = damaged_image frame state
 
   bare : List Bool
-  bare = damaged (damaged_words frame.unit.body) (damage_counts frame.unit.body state) (unit_image_of frame.unit)
+  bare = damaged (unit_hits frame.unit.body state).0 (unit_image_of frame.unit)
 
   long_bare : length bare ≡ 70 * blocks
   unfolding bare blocks
-  long_bare = length-damaged (damaged_words frame.unit.body) (damage_counts frame.unit.body state) (unit_image_of frame.unit) ∙ symbols-image frame sound sendable
+  long_bare = length-damaged (unit_hits frame.unit.body state).0 (unit_image_of frame.unit) ∙ symbols-image frame sound sendable
 
   long_sent : length sent ≡ 72 * blocks
   unfolding sent damaged_image bare blocks
@@ -161,9 +153,10 @@ module _ (frame : Frame) (sound : IsSoundFrame frame) (sendable : IsSendableUnit
   unfolding sent damaged_image bare blocks
   statuses_are = statuses_of-woven bare frame.statuses long_bare
 
-  near : IsNearAt (damaged_words frame.unit.body) (damage_counts frame.unit.body state) (unit_image_of frame.unit) bare
+  near : (distance_of (part 0 48 bare) (part 0 48 (unit_image_of frame.unit)) ≤ 4) × (distance_of (part 48 63 bare) (part 48 63 (unit_image_of frame.unit)) ≤ 11)
+      × Each (IsNearAt (unit_image_of frame.unit) bare) (body_hits frame.unit.body (behind frame.unit.body state)).0
   unfolding bare
-  near = damaged-near frame.unit.body state (unit_image_of frame.unit)
+  near = parts-near frame.unit.body state (unit_image_of frame.unit) bare (unit-near frame.unit.body state (unit_image_of frame.unit))
 
   front-within : IsFrontWithin frame sent
   unfolding blocks
@@ -173,24 +166,21 @@ module _ (frame : Frame) (sound : IsSoundFrame frame) (sendable : IsSendableUnit
       let here = sent-front blocks sent two long_sent in
       let there = sent-front blocks image two (length-image_of-blocks frame sound sendable) in
       let image_bare = bare_of-image_of frame sound sendable in
-      let sync = sync-near frame.unit.body state (unit_image_of frame.unit) bare near in
-      let identifier = identifier-near frame.unit.body state (unit_image_of frame.unit) bare near in
       let first = here.0 ∙ ap (part 0 48) bare_is in
       let second = there.0 ∙ ap (part 0 48) image_bare in
       let third = here.1 ∙ ap (part 48 63) bare_is in
       let fourth = there.1 ∙ ap (part 48 63) image_bare in
       record {
         long = long_sent ∙ sym (length-image_of-blocks frame sound sendable);
-        sync = omega (arith, sync, ap₂ (λ (xs ys : List Bool). distance_of xs ys) first second);
-        identifier = omega (arith, identifier, ap₂ (λ (xs ys : List Bool). distance_of xs ys) third fourth);
+        sync = omega (arith, near.0, ap₂ (λ (xs ys : List Bool). distance_of xs ys) first second);
+        identifier = omega (arith, near.1, ap₂ (λ (xs ys : List Bool). distance_of xs ys) third fourth);
       }
 
   body-is-within : IsBodyWithin frame.unit.body (unit_image_of frame.unit) bare
   unfolding unit_image_of bare
   body-is-within =
-      let body = frame.unit.body in
-      let long = length-damaged (damaged_words body) (damage_counts body state) (unit_image_of frame.unit) in
-      body-within frame.unit.nac body (state_after 2 state) bare sendable.body long (body-near body state (unit_image_of frame.unit) bare near)
+      let long = length-damaged (unit_hits frame.unit.body state).0 (unit_image_of frame.unit) in
+      body-within frame.unit.nac frame.unit.body (behind frame.unit.body state) bare sendable.body long near.2
 
   pub image-within : IsWithinRadius frame (damaged_image frame state)
   unfolding sent
@@ -242,8 +232,8 @@ frame-drawn kind state first second last nac status body unit a b c d e f g =
 -- The units in order.
 
 pub sample-next : (i state middle last flips : ℕ) (kind : Kind) (frame : Frame) (bits : List Bool) → kind ≡ kind_of i → state ≡ state_before i → frame ≡ (frame_next kind state).0
-    → middle ≡ (frame_next kind state).1 → bits ≡ damaged_image frame middle → flips ≡ sum (damage_counts frame.unit.body middle)
-    → last ≡ state_after (damage_draws frame.unit.body middle) middle
+    → middle ≡ (frame_next kind state).1 → bits ≡ damaged_image frame middle → flips ≡ inversions (unit_hits frame.unit.body middle).0
+    → last ≡ (unit_hits frame.unit.body middle).1
     → (frame ≡ sample_frame i) × (bits ≡ sample_bits i) × (flips ≡ sample_flips i) × (last ≡ state_before (i + 1))
 unfolding sample_frame sample_bits sample_flips state_before state_behind_unit
 sample-next i state middle last flips kind frame bits a b c d e f g =
@@ -252,8 +242,8 @@ sample-next i state middle last flips kind frame bits a b c d e f g =
     let next : suc i ≡ i + 1 = omega arith in (
       frames,
       e ∙ ap₂ damaged_image frames behind,
-      f ∙ ap₂ (λ (x : Frame) (s : ℕ). sum (damage_counts x.unit.body s)) frames behind,
-      g ∙ ap₂ (λ (x : Frame) (s : ℕ). state_after (damage_draws x.unit.body s) s) frames behind ∙ ap state_before next,
+      f ∙ ap₂ (λ (x : Frame) (s : ℕ). inversions (unit_hits x.unit.body s).0) frames behind,
+      g ∙ ap₂ (λ (x : Frame) (s : ℕ). (unit_hits x.unit.body s).1) frames behind ∙ ap state_before next,
     )
 
 pub flips_of-none : flips_of 0 ≡ 0

@@ -1,69 +1,68 @@
--- The damage of a sample data unit: the number of first bits of its sync, of its network identifier (NID) and of each of its codewords and blocks
--- that are inverted, by the draws after a state.
-use Rattle.std.specs.Prelude.{ℕ, zero, suc, ◌+◌, ◌-◌, ◌%◌, if◌then◌else◌, nat_lt, Bool, List, [], ◌∷◌, ◌++◌}
-use Rattle.p25_bits.specs.{Bits.{flipped}, Numbers.{each_below}}
-use Rattle.p25_voice_units.specs.declared.unit.VoiceUnit.TheVariants.{Header, Link1, Link2, End, EndLink}
+-- The damage of a sample data unit: some of the first bits of its sync, of its network identifier (NID) and of each of its codewords and blocks are
+-- inverted, as many as draws give.
+use Rattle.std.specs.Prelude.{◌≡◌, ℕ, zero, suc, ◌+◌, ◌%◌, Bool, List, [], ◌∷◌, ◌++◌, fold, sum_by}
+use Rattle.p25_bits.specs.Bits.{flipped}
+use Rattle.p25_coded_fields.specs.Layouts.{places_from}
+use Rattle.p25_voice_units.specs.{declared.unit.VoiceUnit.TheVariants.{Header, Link1, Link2, End, EndLink}, FieldLayouts.{word_places}}
+use Rattle.p25_voice_units.specs.{Layouts.{hdu_rows, ldu_rows, tdulc_rows}, Readings.{low_places}}
 use Rattle.p25_packet_blocks.specs.{Heads.{head_blocks}, Whole.{packet_head}, Within.{block_radius}}
-use Rattle.p25_units.specs.{Fixes.{body_looked}, declared.unit.Body.{Body}, declared.unit.Body.TheVariants.{Voice, Packet}}
-use Rattle.p25_vectors.specs.Draws.{draw, state_after}
+use Rattle.p25_units.specs.{declared.unit.Body.{Body}, declared.unit.Body.TheVariants.{Voice, Packet}}
+use Rattle.p25_vectors.specs.Draws.{Drawing, and_then, drawn, number_next}
+
+-- a damaged codeword or block: its position, its number of bits, and how many of the first of them are inverted
+abbrev pub Hit : Type 0
+Hit = ℕ × ℕ × ℕ
 
 -- bits with a number of them inverted, from a position on
 unfoldable pub inverted : ℕ → ℕ → List Bool → List Bool
 inverted at zero bits = bits
 inverted at (suc count) bits = flipped (inverted at count bits) (at + count)
 
--- bits with the first bits of each of some codewords inverted, a given number of each; a codeword is a position and a number of bits
-unfoldable pub damaged : List (ℕ × ℕ) → List ℕ → List Bool → List Bool
-damaged [] counts bits = bits
-damaged (word ∷ words) [] bits = bits
-damaged (word ∷ words) (count ∷ counts) bits = damaged words counts (inverted word.0 count bits)
+-- bits with the first bits of each hit inverted
+unfoldable pub damaged : List Hit → List Bool → List Bool
+damaged hits bits = fold (λ now hit. inverted hit.0 hit.2 now) bits hits
 
--- a number of codewords of a size: the first ones are inverted whole, and each later one in a drawn number of bits, modulo one more than the
+-- the number of bits that are inverted
+unfoldable pub inversions : List Hit → ℕ
+inversions hits = sum_by (λ hit. hit.2) hits
+
+-- codewords of a size at positions: the first ones are inverted whole, and each later one in a drawn number of bits, modulo one more than the
 -- correction radius
-unfoldable pub word_counts : ℕ → ℕ → ℕ → ℕ → ℕ → List ℕ
-word_counts count size radius whole state = each_below count (λ i. if nat_lt i whole then size else draw (i - whole) state % (radius + 1))
+unfoldable pub word_hits : ℕ → ℕ → ℕ → List ℕ → Drawing (List Hit)
+word_hits size radius whole [] = drawn []
+word_hits size radius (suc whole) (at ∷ places) = and_then (word_hits size radius whole places) (λ hits. drawn ((at, size, size) ∷ hits))
+word_hits size radius zero (at ∷ places) =
+    and_then number_next (λ number. and_then (word_hits size radius zero places) (λ hits. drawn ((at, size, number % (radius + 1)) ∷ hits)))
+
+-- the hits of a drawing, and then those of another
+abbrev pub both : Drawing (List Hit) → Drawing (List Hit) → Drawing (List Hit)
+both first second = and_then first (λ hits. and_then second (λ more. drawn (hits ++ more)))
 
 -- the inner codewords of a coded field: first a draw determines how many are inverted whole, from 0 to the most that its outer code corrects
-abbrev pub field_counts : ℕ → ℕ → ℕ → ℕ → ℕ → List ℕ
-field_counts count size radius most state = word_counts count size radius (draw 0 state % (most + 1)) (state_after 1 state)
-
--- the number of draws for that
-abbrev pub field_draws : ℕ → ℕ → ℕ → ℕ
-field_draws count most state = 1 + (count - draw 0 state % (most + 1))
+abbrev pub field_hits : ℕ → ℕ → ℕ → List ℕ → Drawing (List Hit)
+field_hits size radius most places = and_then number_next (λ number. word_hits size radius (number % (most + 1)) places)
 
 -- the 24 Hamming codewords of an LDU1 or an LDU2, and the two codewords of its low speed data (LSD)
-abbrev pub link_counts : ℕ → ℕ → List ℕ
-link_counts most state = field_counts 24 10 1 most state ++ word_counts 2 16 2 0 (state_after (field_draws 24 most state) state)
+abbrev pub link_hits : ℕ → Drawing (List Hit)
+link_hits most = both (field_hits 10 1 most (word_places 10 ldu_rows)) (word_hits 16 2 0 (low_places ldu_rows))
 
--- the number of inverted bits of each codeword and block after sync and NID: up to three of a Golay codeword, one of a Hamming codeword, two of a low
--- speed data codeword, two of a half-rate block, and one of a three-quarter-rate block
-unfoldable pub body_counts : Body → ℕ → List ℕ
-body_counts (Voice (Header word)) state = field_counts 36 18 3 8 state
-body_counts (Voice (Link1 link low voice)) state = link_counts 6 state
-body_counts (Voice (Link2 sync low voice)) state = link_counts 4 state
-body_counts (Voice End) state = []
-body_counts (Voice (EndLink link)) state = field_counts 12 24 3 3 state
-body_counts (Packet packet) state =
-    word_counts 1 196 2 0 state ++ word_counts (head_blocks (packet_head packet)) 196 (block_radius packet) 0 (state_after 1 state)
+-- the codewords and blocks after sync and NID: up to three bits of a Golay codeword, one of a Hamming codeword, two of a low speed data codeword, two
+-- of a half-rate block, and one of a three-quarter-rate block
+unfoldable pub body_hits : Body → Drawing (List Hit)
+body_hits (Voice (Header word)) = field_hits 18 3 8 (word_places 18 hdu_rows)
+body_hits (Voice (Link1 link low voice)) = link_hits 6
+body_hits (Voice (Link2 sync low voice)) = link_hits 4
+body_hits (Voice End) = drawn []
+body_hits (Voice (EndLink link)) = field_hits 24 3 3 (word_places 24 tdulc_rows)
+body_hits (Packet packet) =
+    both (word_hits 196 2 0 (112 ∷ [])) (word_hits 196 (block_radius packet) 0 (places_from 308 196 (head_blocks (packet_head packet))))
 
--- the number of draws for that
-unfoldable pub body_damage_draws : Body → ℕ → ℕ
-body_damage_draws (Voice (Header word)) state = field_draws 36 8 state
-body_damage_draws (Voice (Link1 link low voice)) state = field_draws 24 6 state + 2
-body_damage_draws (Voice (Link2 sync low voice)) state = field_draws 24 4 state + 2
-body_damage_draws (Voice End) state = 0
-body_damage_draws (Voice (EndLink link)) state = field_draws 12 3 state
-body_damage_draws (Packet packet) state = 1 + head_blocks (packet_head packet)
+-- a data unit without status symbols: up to four bits of its sync, up to eleven of the first 63 bits of its NID, and then its codewords and blocks
+unfoldable pub unit_hits : Body → Drawing (List Hit)
+unit_hits body = both (both (word_hits 48 4 0 (0 ∷ [])) (word_hits 63 11 0 (48 ∷ []))) (body_hits body)
 
--- the damaged codewords of a data unit without status symbols: its sync, the first 63 bits of its network identifier (NID), and its codewords and
--- blocks
-unfoldable pub damaged_words : Body → List (ℕ × ℕ)
-damaged_words body = (0, 48) ∷ (48, 63) ∷ body_looked body
-
--- the number of inverted bits of each: up to four of the sync, up to eleven of the NID, and then of the others
-unfoldable pub damage_counts : Body → ℕ → List ℕ
-damage_counts body state = draw 0 state % 5 ∷ draw 1 state % 12 ∷ body_counts body (state_after 2 state)
-
--- the number of draws for that
-unfoldable pub damage_draws : Body → ℕ → ℕ
-damage_draws body state = 2 + body_damage_draws body (state_after 2 state)
+-- bits, a number of inverted bits and a state are those after the hits of a drawing
+pub record IsDamage (next : Drawing (List Hit)) (before : ℕ) (sent now : List Bool) (count behind : ℕ) : Type 0 where
+  pub list : now ≡ damaged (next before).0 sent
+  pub flips : count ≡ inversions (next before).0
+  pub state : behind ≡ (next before).1

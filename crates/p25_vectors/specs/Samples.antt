@@ -3,8 +3,8 @@ use Rattle.std.specs.Prelude.{ℕ, zero, suc, ◌/◌, ◌%◌, Bool, List, repl
 use Rattle.p25_bits.specs.Numbers.{each_below}
 use Rattle.p25_status.specs.{Status.{status_modulo}, Woven.{woven}, declared.symbols.Status.{Status}}
 use Rattle.p25_units.specs.{UnitParts.{UnitParts}, Units.{body_length, unit_image_of}, declared.frame.Frame.{Frame}, declared.unit.Body.{Body}}
-use Rattle.p25_vectors.specs.{Draws.{Drawing, and_then, drawn, number_next, state_after}, Bodies.{body_next, kind_of}}
-use Rattle.p25_vectors.specs.{Damage.{damage_counts, damage_draws, damaged, damaged_words}, declared.bodies.Kind.{Kind}}
+use Rattle.p25_vectors.specs.{Draws.{Drawing, and_then, drawn, number_next}, Bodies.{body_next, kind_of}}
+use Rattle.p25_vectors.specs.{Damage.{damaged, inversions, unit_hits}, declared.bodies.Kind.{Kind}}
 
 -- the frame of a data unit with a body, with one status symbol everywhere
 abbrev pub frame_of : ℕ → Status → Body → Frame
@@ -20,13 +20,11 @@ frame_next kind =
 
 -- the transmitted bits of a frame, damaged by the draws after a state; no status symbol is damaged
 unfoldable pub damaged_image : Frame → ℕ → List Bool
-damaged_image frame state =
-    woven (damaged (damaged_words frame.unit.body) (damage_counts frame.unit.body state) (unit_image_of frame.unit)) frame.statuses
+damaged_image frame state = woven (damaged (unit_hits frame.unit.body state).0 (unit_image_of frame.unit)) frame.statuses
 
 -- the state after a data unit of a type and its damage
 unfoldable pub state_behind_unit : Kind → ℕ → ℕ
-state_behind_unit kind state =
-    let framed = frame_next kind state in state_after (damage_draws framed.0.unit.body framed.1) framed.1
+state_behind_unit kind state = let framed = frame_next kind state in (unit_hits framed.0.unit.body framed.1).1
 
 -- the state before the data unit of an index, from 0
 unfoldable pub state_before : ℕ → ℕ
@@ -47,7 +45,7 @@ sample_bits i = damaged_image (sample_frame i) (damage_state i)
 
 -- the number of them that are inverted
 unfoldable pub sample_flips : ℕ → ℕ
-sample_flips i = sum (damage_counts (sample_frame i).unit.body (damage_state i))
+sample_flips i = inversions (unit_hits (sample_frame i).unit.body (damage_state i)).0
 
 -- the number of inverted bits of the first data units
 unfoldable pub flips_of : ℕ → ℕ

@@ -1,13 +1,11 @@
 //! The damage of sample data units: the first bits of each of their codewords are inverted, a drawn number of them.
 
-ghost use Rattle.std.specs.Prelude.{◌≡◌, ◌+◌, ◌-◌, ◌*◌, ◌%◌, ◌<◌, ◌≤◌, All, length, sum};
-ghost use Rattle.p25_bits.specs.Numbers.{each_below};
-ghost use Rattle.p25_packet_blocks.specs.{Heads.{head_blocks}, Lengths.{packet_bits}, Whole.{packet_head}, Within.{block_radius}};
-ghost use Rattle.p25_units.specs.{Fixes.{body_looked, packet_looked}, Units.{body_length}};
-ghost use Rattle.p25_units.specs.declared.unit.Body.TheVariants.{Packet as packet_in, Voice as voice_in};
-ghost use Rattle.p25_voice_units.specs.Fixes.{link_looked, voice_looked, wide};
+ghost use Rattle.std.specs.Prelude.{◌≡◌, ◌+◌, ◌*◌, ◌%◌, ◌<◌, ◌≤◌, All, length};
+ghost use Rattle.p25_coded_fields.specs.Layouts.{places_from};
+ghost use Rattle.p25_packet_blocks.specs.{Lengths.{packet_bits}, Within.{block_radius}};
+ghost use Rattle.p25_units.specs.{Units.{body_length}, declared.unit.Body.TheVariants.{Packet as packet_in, Voice as voice_in}};
 ghost use Rattle.p25_vectors.specs.Draws.{draw, state_after};
-ghost use Rattle.p25_vectors.specs.Damage.{body_counts, body_damage_draws, damage_counts, damage_draws, damaged, damaged_words, field_counts, field_draws, inverted, link_counts, word_counts};
+ghost use Rattle.p25_vectors.specs.Damage.{IsDamage, body_hits, field_hits, inverted, link_hits, unit_hits, word_hits};
 
 use crate::draws::Draws;
 use p25_bits::BitBuf;
@@ -84,12 +82,9 @@ fn damage_words(
     requires few { length places.now ≤ 36 }
     requires whole { whole ≤ length places.now }
     requires there { All (λ at. at + words.size ≤ length bits.old) places.now }
-    ensures list { bits.new ≡ damaged (wide words.size places.now)
-        (word_counts (length places.now) words.size words.radius whole draws.old) bits.old }
+    ensures damage { IsDamage (word_hits words.size words.radius whole places.now) draws.old bits.old bits.new result draws.new }
     ensures len { length bits.new ≡ length bits.old }
-    ensures flips { result ≡ sum (word_counts (length places.now) words.size words.radius whole draws.old) }
     ensures few { result ≤ 24 * length places.now }
-    ensures state { draws.new ≡ state_after (length places.now - whole) draws.old }
 {
     let mut flips = 0;
     for i in 0..places.len() {
@@ -116,12 +111,9 @@ fn damage_field(
     requires few { length places.now ≤ 36 }
     requires most { most ≤ length places.now }
     requires there { All (λ at. at + words.size ≤ length bits.old) places.now }
-    ensures list { bits.new ≡ damaged (wide words.size places.now)
-        (field_counts (length places.now) words.size words.radius most draws.old) bits.old }
+    ensures damage { IsDamage (field_hits words.size words.radius most places.now) draws.old bits.old bits.new result draws.new }
     ensures len { length bits.new ≡ length bits.old }
-    ensures flips { result ≡ sum (field_counts (length places.now) words.size words.radius most draws.old) }
     ensures few { result ≤ 24 * length places.now }
-    ensures state { draws.new ≡ state_after (field_draws (length places.now) most draws.old) draws.old }
 {
     let whole = draws.below(most as u64 + 1) as usize;
     damage_words(places, words, whole, draws, bits)
@@ -131,11 +123,9 @@ fn damage_field(
 fn damage_link(most: usize, draws: &mut Draws, bits: &mut BitBuf) -> u32
     requires most { most ≤ 24 }
     requires long { length bits.old ≡ 1680 }
-    ensures list { bits.new ≡ damaged link_looked (link_counts most draws.old) bits.old }
+    ensures damage { IsDamage (link_hits most) draws.old bits.old bits.new result draws.new }
     ensures len { length bits.new ≡ 1680 }
-    ensures flips { result ≡ sum (link_counts most draws.old) }
     ensures few { result ≤ 864 }
-    ensures state { draws.new ≡ state_after (field_draws 24 most draws.old + 2) draws.old }
 {
     // For the prover, here and below: the positions of the words are those of the layouts.
     part_places();
@@ -145,14 +135,12 @@ fn damage_link(most: usize, draws: &mut Draws, bits: &mut BitBuf) -> u32
 
 // Damages the codewords of a voice data unit after sync and NID: those of an HDU, a TDULC, an LDU1 or an LDU2. A TDU
 // has none.
-#[tactic(auto, unfolding(crate::specs::Damage::body_counts, crate::specs::Damage::body_damage_draws, p25_voice_units::specs::Fixes::voice_looked, p25_voice_units::specs::Lengths::voice_length_of))]
+#[tactic(auto, unfolding(crate::specs::Damage::body_hits, p25_voice_units::specs::Lengths::voice_length_of))]
 fn damage_voice(voice: &VoiceUnit, draws: &mut Draws, bits: &mut BitBuf) -> u32
     requires { length bits.old ≡ body_length (voice_in voice.now) }
-    ensures list { bits.new ≡ damaged (voice_looked voice.now) (body_counts (voice_in voice.now) draws.old) bits.old }
+    ensures damage { IsDamage (body_hits (voice_in voice.now)) draws.old bits.old bits.new result draws.new }
     ensures len { length bits.new ≡ length bits.old }
-    ensures flips { result ≡ sum (body_counts (voice_in voice.now) draws.old) }
     ensures few { result ≤ 864 }
-    ensures state { draws.new ≡ state_after (body_damage_draws (voice_in voice.now) draws.old) draws.old }
 {
     part_places();
     match voice {
@@ -170,11 +158,9 @@ fn damage_blocks(count: usize, radius: usize, draws: &mut Draws, bits: &mut BitB
     requires few { count < 128 }
     requires radius { radius ≤ 2 }
     requires there { packet_bits count ≤ length bits.old }
-    ensures list { bits.new ≡ damaged (each_below count (λ j. (308 + 196 * j, 196))) (word_counts count 196 radius 0 draws.old) bits.old }
+    ensures damage { IsDamage (word_hits 196 radius 0 (places_from 308 196 count)) draws.old bits.old bits.new result draws.new }
     ensures len { length bits.new ≡ length bits.old }
-    ensures flips { result ≡ sum (word_counts count 196 radius 0 draws.old) }
     ensures few { result ≤ 2 * count }
-    ensures state { draws.new ≡ state_after count draws.old }
 {
     let mut flips = 0;
     for j in 0..count {
@@ -186,12 +172,9 @@ fn damage_blocks(count: usize, radius: usize, draws: &mut Draws, bits: &mut BitB
 // Damages all blocks of a packet (PDU).
 fn damage_packet(packet: &Packet, draws: &mut Draws, bits: &mut BitBuf) -> u32
     requires { length bits.old ≡ body_length (packet_in packet.now) }
-    ensures list { bits.new ≡ damaged (packet_looked (head_blocks (packet_head packet.now)))
-        (body_counts (packet_in packet.now) draws.old) bits.old }
+    ensures damage { IsDamage (body_hits (packet_in packet.now)) draws.old bits.old bits.new result draws.new }
     ensures len { length bits.new ≡ length bits.old }
-    ensures flips { result ≡ sum (body_counts (packet_in packet.now) draws.old) }
     ensures few { result ≤ 256 }
-    ensures state { draws.new ≡ state_after (body_damage_draws (packet_in packet.now) draws.old) draws.old }
 {
     let header = damage_word(HEADER_AT, 2, draws, bits);
     let count = usize::from(packet.head().blocks());
@@ -213,10 +196,8 @@ fn radius_of(packet: &Packet) -> usize
 // of its network identifier (NID), and of each of its codewords and blocks.
 pub(crate) fn damage(body: &Body, draws: &mut Draws, bits: &mut BitBuf) -> u32
     requires { length bits.old ≡ body_length body.now }
-    ensures list { bits.new ≡ damaged (damaged_words body.now) (damage_counts body.now draws.old) bits.old }
+    ensures damage { IsDamage (unit_hits body.now) draws.old bits.old bits.new result draws.new }
     ensures len { length bits.new ≡ length bits.old }
-    ensures flips { result ≡ sum (damage_counts body.now draws.old) }
-    ensures state { draws.new ≡ state_after (damage_draws body.now draws.old) draws.old }
 {
     let sync = damage_word(0, 4, draws, bits);
     let identifier = damage_word(48, 11, draws, bits);
@@ -226,11 +207,9 @@ pub(crate) fn damage(body: &Body, draws: &mut Draws, bits: &mut BitBuf) -> u32
 // Damages the bits after sync and NID.
 fn damage_body(body: &Body, draws: &mut Draws, bits: &mut BitBuf) -> u32
     requires { length bits.old ≡ body_length body.now }
-    ensures list { bits.new ≡ damaged (body_looked body.now) (body_counts body.now draws.old) bits.old }
+    ensures damage { IsDamage (body_hits body.now) draws.old bits.old bits.new result draws.new }
     ensures len { length bits.new ≡ length bits.old }
-    ensures flips { result ≡ sum (body_counts body.now draws.old) }
     ensures few { result ≤ 864 }
-    ensures state { draws.new ≡ state_after (body_damage_draws body.now draws.old) draws.old }
 {
     match body {
         Body::Voice(voice) => damage_voice(voice, draws, bits),

@@ -1,9 +1,9 @@
 //! The sample data units, one after the other.
 
-ghost use Rattle.std.specs.Prelude.{◌≡◌, ◌+◌, ◌<◌, Ok, length, sum};
+ghost use Rattle.std.specs.Prelude.{◌≡◌, ◌+◌, ◌<◌, Ok, length};
 ghost use Rattle.p25_units.specs.{Needs.{need_of}, Readings.{unit_reading_of}, Units.{IsSendableUnit, IsSoundFrame}, WithinRadius.{IsWithinRadius}};
 ghost use Rattle.p25_units.specs.declared.needs.Need.TheVariants.{Length};
-ghost use Rattle.p25_vectors.specs.{Draws.{state_after}, Damage.{damage_counts, damage_draws}};
+ghost use Rattle.p25_vectors.specs.Damage.{inversions, unit_hits};
 ghost use Rattle.p25_vectors.specs.Samples.{damaged_image, frame_next, sample_bits, sample_flips, sample_frame};
 
 use crate::bodies::{Kind, draw_body, kind_at};
@@ -111,9 +111,9 @@ fn draw_frame(kind: Kind, draws: &mut Draws) -> Frame
 fn put_damaged(frame: &Frame, draws: &mut Draws, bits: &mut BitBuf) -> u32
     requires { IsSoundFrame frame.now }
     ensures bits { bits.new ≡ damaged_image frame.now draws.old }
-    ensures flips { result ≡ sum (damage_counts frame.now.unit.body draws.old) }
+    ensures flips { result ≡ inversions (unit_hits frame.now.unit.body draws.old).0 }
     ensures sendable { IsSendableUnit frame.now.unit }
-    ensures state { draws.new ≡ state_after (damage_draws frame.now.unit.body draws.old) draws.old }
+    ensures state { draws.new ≡ (unit_hits frame.now.unit.body draws.old).1 }
 {
     let mut bare = BitBuf::new();
     unit_image(&frame.unit, &mut bare);

@@ -1,32 +1,41 @@
-use Rattle.std.proofs.Common.{◌≡◌, ◌+◌, ◌*◌, ◌%◌, ℕ, refl, ap, sym, ◌∙◌, arith}
-use Rattle.p25_vectors.specs.{Draws.{draw, state_after}, Damage.{inverted}}
-use Rattle.p25_vectors.proofs.{DrawsLaws.{draw-after, state_after-none, state_after-add}, CountsLaws.{AreBlocksSoFar, blocks, blocks-none, blocks-more}}
+use Rattle.std.proofs.Common.{◌≡◌, ◌+◌, ◌-◌, ◌*◌, ◌%◌, ◌<◌, ℕ, suc, List, Bool, refl, sym, ◌∙◌, arith}
+use Rattle.p25_coded_fields.specs.Layouts.{places_from}
+use Rattle.p25_vectors.specs.{Draws.{draw, state_after}, Damage.{inverted, word_hits}}
+use Rattle.p25_vectors.proofs.HitsLaws.{outcome, outcome-drawn, damage-outcome}
 use Rattle.p25_vectors.proofs.damage.damage_blocks.Goals as goal
 
-place : ℕ → ℕ
-place j = 308 + 196 * j
-
 pub loop-j-init : goal.loop-j-init
-unfolding AreBlocksSoFar blocks place
 loop-j-init c =
-    let none = blocks-none 196 c.args.radius c.args.draws.now place c.args.bits.now in
-    record { bits = none.0; len = refl; flips = none.1; few = omega arith; state = sym (state_after-none c.args.draws.now) }
+    let all : c.args.count - 0 ≡ c.args.count = omega arith in
+    record { left = rw all refl; len = refl; few = omega arith }
+
+left-more : (radius count j state next flips total : ℕ) (bits now : List Bool) → j < count → now ≡ inverted (308 + 196 * j) (draw 0 state % (radius + 1)) bits
+    → total ≡ draw 0 state % (radius + 1) → next ≡ state_after 1 state
+    → outcome (word_hits 196 radius 0 (places_from (308 + 196 * (j + 1)) 196 (count - (j + 1)))) next now (flips + total)
+    ≡ outcome (word_hits 196 radius 0 (places_from (308 + 196 * j) 196 (count - j))) state bits flips
+unfolding places_from
+left-more radius count j state next flips total bits now inside list number after =
+    let one : count - j ≡ suc (count - (j + 1)) = omega arith in
+    let place : 308 + 196 * (j + 1) ≡ 308 + 196 * j + 196 = omega arith in
+    rw (list, number, after, one, place) (sym (outcome-drawn 196 radius state bits flips (308 + 196 * j) (places_from (308 + 196 * j + 196) 196 (count - (j + 1)))))
 
 pub loop-j-preserved : goal.loop-j-preserved
-unfolding AreBlocksSoFar blocks place
 loop-j-preserved c =
-    let j = c.loop-j.j in
-    let state = c.args.draws.now in
+    let loop = c.loop-j in
     let done = c.damage_word-flips in
-    let drawn : done.result ≡ draw j state % (c.args.radius + 1)
-    = done.ensures.count ∙ ap (λ (s : ℕ). draw 0 s % (c.args.radius + 1)) c.loop-j.invariant.state ∙ ap (λ (d : ℕ). d % (c.args.radius + 1)) (draw-after j state) in
-    let step : done.new.bits ≡ inverted (place j) done.result c.loop-j.bits
-    = done.ensures.list ∙ ap (λ (n : ℕ). inverted (place j) n c.loop-j.bits) (sym done.ensures.count) in
-    let more = blocks-more 196 c.args.radius state place c.args.bits.now j done.result c.loop-j.flips c.loop-j.bits done.new.bits (c.loop-j.invariant.bits, c.loop-j.invariant.flips) step drawn in
     record {
-      bits = more.0;
-      len = done.ensures.len ∙ c.loop-j.invariant.len;
-      flips = more.1;
-      few = omega (arith, c.loop-j.invariant.few, done.ensures.few, c.requires.radius);
-      state = done.ensures.state ∙ ap (state_after 1) c.loop-j.invariant.state ∙ state_after-add j 1 state;
+      left =
+          left-more c.args.radius c.args.count loop.j loop.draws done.new.draws loop.flips done.result loop.bits done.new.bits c.loop-j-test.true
+          done.ensures.list done.ensures.count done.ensures.state
+          ∙ loop.invariant.left;
+      len = done.ensures.len ∙ loop.invariant.len;
+      few = omega (arith, loop.invariant.few, done.ensures.few, c.requires.radius);
     }
+
+pub returns-clause-damage : goal.returns-clause-damage
+unfolding places_from
+returns-clause-damage c =
+    let loop = c.loop-j in
+    let none : c.args.count - loop.j ≡ 0 = omega arith in
+    damage-outcome (word_hits 196 c.args.radius 0 (places_from 308 196 c.args.count)) 196 c.args.radius 0 c.args.draws.now loop.draws loop.flips c.args.bits.now loop.bits
+    (rw none at loop.invariant.left)
