@@ -1,110 +1,53 @@
-//! A terminator under the other code, and bits that are written in whole octets.
+//! A terminator, received with a bit error and after bits of no unit, cut off, and a write that fails.
 
-use super::{repeat, write_bits};
-use p25_bits::BitBuf;
-use p25_stream::{Item, Scanner};
+use super::repeat_recording;
+use p25_filter::{Ending, FilterEnd};
+use p25_io::{MemorySource, Pair, SliceSink};
 
-// A terminator (TDU) of NAC 293 hex with the status symbol 1, with one bit error in its sync.
-const TERMINATOR: [u8; 18] = [
-    0x55, 0x75, 0xF5, 0xFF, 0x77, 0xFE, 0x29, 0x33, 0x39, 0x5D, 0xDC, 0xA3, 0x3B, 0x5B, 0x80, 0x00,
-    0x00, 0x01,
-];
+const DONE: FilterEnd = FilterEnd::Ended(Ending::Done);
 
-// Whether the item of the terminator is retransmitted repaired, under the code 2A1 hex and with its status symbols.
-fn is_repeated() -> bool {
-    let mut scanner = Scanner::new();
-    let mut raw = BitBuf::new();
-    if scanner.push_some(&TERMINATOR) != 8 || scanner.held() != 64 || !scanner.is_drained() {
-        return false;
-    }
-    let taken = scanner.push_some(&TERMINATOR[8..]);
-    if taken != 8 || scanner.held() != 128 || !scanner.is_drained() {
-        return false;
-    }
-    scanner.push(TERMINATOR[16]);
-    if scanner.held() != 136 || !scanner.is_drained() {
-        return false;
-    }
-    scanner.push(TERMINATOR[17]);
-    let Some(item) = scanner.next(&mut raw) else {
-        return false;
-    };
-    repeat(&item, &mut raw);
-    raw.len() == 144
-        && raw.field(0, 48) == 0x5575_F5FF_77FF
-        && raw.field(48, 12) == 0x2A1
-        && raw.field(70, 2) == 1
-        && raw.field(142, 2) == 1
-}
-
-#[test]
-fn a_terminator_is_repeated(rt: HostRuntime) {
-    assert!(rt; is_repeated());
-}
-
-// Whether the bits of a gap are unchanged.
-fn is_left() -> bool {
-    let mut raw = BitBuf::new();
-    raw.put_field(5, 3);
-    repeat(
-        &Item::Gap {
-            place: 0,
-            length: 3,
-        },
-        &mut raw,
-    );
-    raw.len() == 3 && raw.field(0, 3) == 5
-}
-
-#[test]
-fn a_gap_is_left(rt: HostRuntime) {
-    assert!(rt; is_left());
-}
-
-// This number of bits 1.
-fn ones(count: usize) -> BitBuf {
-    let mut bits = BitBuf::new();
-    for _bit in 0..count {
-        if bits.len() < 9_000 {
-            bits.push(true);
-        }
-    }
-    bits
-}
-
-// The number of octets written for `count` bits 1 after those on the page, and the number of bits that stay there; none
-// if a bit is changed.
-fn written(before: usize, count: usize) -> Option<(usize, usize)> {
-    let (mut page, bits) = (ones(before), ones(count));
-    if page.len() >= 8 {
-        return None;
-    }
-    let mut output = [0; 2_048];
-    let mut rest = output.as_mut_slice();
-    write_bits(&bits, &mut page, &mut rest).ok()?;
-    let left = rest.len();
-    let count = 2_048usize.checked_sub(left)?;
-    for octet in output.iter().take(count) {
-        if *octet != 0xFF {
-            return None;
-        }
-    }
-    Some((count, page.len()))
-}
-
-// Bits on the page and after them, the octets that are written, and the bits that stay.
-const ROWS: [(usize, usize, usize, usize); 6] = [
-    (0, 0, 0, 0),
-    (0, 20, 2, 4),
-    (4, 4, 1, 0),
-    (7, 4_096, 512, 7),
-    (7, 4_097, 513, 0),
-    (3, 8_200, 1_025, 3),
+// The octets of a recording, how many the sink takes, how the work ends, and the octets that are written. The terminator
+// (TDU) has NAC 293 hex, the status symbol 1 and one bit error in its sync. The output has NAC 2A1 hex and no bit error,
+// as the second implementation encodes it.
+const ROWS: [(&[u8], usize, FilterEnd, &[u8]); 5] = [
+    (b"", 64, DONE, b""),
+    (
+        b"\x55\x75\xF5\xFF\x77\xFE\x29\x33\x39\x5D\xDC\xA3\x3B\x5B\x80\x00\x00\x01",
+        64,
+        DONE,
+        b"\x55\x75\xF5\xFF\x77\xFF\x2A\x13\x29\x11\x7B\xD8\x1E\x84\x80\x00\x00\x01",
+    ),
+    // Twelve bits of no unit before it, and four after it.
+    (
+        b"\xAB\xC5\x57\x5F\x5F\xF7\x7F\xE2\x93\x33\x95\xDD\xCA\x33\xB5\xB8\x00\x00\x00\x14",
+        64,
+        DONE,
+        b"\xAB\xC5\x57\x5F\x5F\xF7\x7F\xF2\xA1\x32\x91\x17\xBD\x81\xE8\x48\x00\x00\x00\x14",
+    ),
+    // Without its last octet, it stays as received.
+    (
+        b"\x55\x75\xF5\xFF\x77\xFE\x29\x33\x39\x5D\xDC\xA3\x3B\x5B\x80\x00\x00",
+        64,
+        DONE,
+        b"\x55\x75\xF5\xFF\x77\xFE\x29\x33\x39\x5D\xDC\xA3\x3B\x5B\x80\x00\x00",
+    ),
+    (
+        b"\x55\x75\xF5\xFF\x77\xFE\x29\x33\x39\x5D\xDC\xA3\x3B\x5B\x80\x00\x00\x01",
+        17,
+        FilterEnd::WriteFault,
+        b"\x55\x75\xF5\xFF\x77\xFF\x2A\x13\x29\x11\x7B\xD8\x1E\x84\x80\x00\x00",
+    ),
 ];
 
 #[test]
-fn bits_are_written_in_whole_octets(rt: HostRuntime) {
-    for (before, count, octets, left) in ROWS {
-        assert!(rt; written(before, count) == Some((octets, left)));
+fn recordings_are_repeated(rt: HostRuntime) {
+    for (recording, most, end, octets) in &ROWS {
+        for count in [1, 7, 4_096] {
+            let mut source = MemorySource::new(recording, count, &[]);
+            let mut buffer = [0; 64];
+            let mut sink = SliceSink::new(&mut buffer[..(*most).min(64)], &[]);
+            assert!(rt; repeat_recording(&mut Pair::new(&mut source, &mut sink)) == *end);
+            assert!(rt; sink.written() == *octets);
+        }
     }
 }
