@@ -1,3 +1,7 @@
+pub mod AnswerSteps
+pub mod BlockSteps
+pub mod NumberSteps
+pub mod SymbolSteps
 pub mod RoomsLaws
 pub mod ItemsLaws
 pub mod CallsLaws

@@ -1,3 +1,7 @@
+pub mod Answers
+pub mod Blocks
+pub mod Numbers
+pub mod Symbols
 pub mod Rooms
 pub mod Items
 pub mod Calls

@@ -48,4 +48,5 @@ mod solomon;
 mod stream;
 mod version;
 mod views;
+mod word_calls;
 mod words;

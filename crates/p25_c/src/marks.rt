@@ -4,9 +4,9 @@ ghost use Rattle.std.specs.Prelude.{◌≡◌, length, map};
 ghost use Rattle.p25_c.specs.Marks.{is_marked};
 ghost use Rattle.p25_code.specs.Erasures.{without_erased};
 ghost use Rattle.p25_reed_solomon.specs.RsReadings.{rs_erased_reading_of};
-ghost use Rattle.p25_word_calls.specs.Symbols.{IsSymbolReading};
+ghost use Rattle.p25_c.specs.Symbols.{IsSymbolReading};
 
-use p25_word_calls::read_with_erased;
+use crate::word_calls::read_with_erased;
 
 /// Decodes a received word of the code (36,20) as `p25_rs_36_20_read_erased` does. A symbol whose mark is not 0 is erased.
 /// Since 1.1.

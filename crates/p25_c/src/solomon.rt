@@ -5,9 +5,9 @@
 
 ghost use Rattle.p25_code.specs.Erasures.{without_erased};
 ghost use Rattle.p25_reed_solomon.specs.RsReadings.{rs_erased_reading_of, rs_reading_of};
-ghost use Rattle.p25_word_calls.specs.Symbols.{IsSymbolReading, IsSymbolWriting};
+ghost use Rattle.p25_c.specs.Symbols.{IsSymbolReading, IsSymbolWriting};
 
-use p25_word_calls::{read_symbols, read_with_erased, write_symbols};
+use crate::word_calls::{read_symbols, read_with_erased, write_symbols};
 
 /// Decodes a received word of the code (36,20), of the header word (HDU), and returns how many symbol errors it corrected, at
 /// most 8: the octets become those of the only codeword that differs in so few. Returns `P25_BEYOND` if there is none, and

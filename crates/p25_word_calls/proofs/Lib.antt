@@ -1,4 +1,0 @@
-pub mod AnswerSteps
-pub mod BlockSteps
-pub mod NumberSteps
-pub mod SymbolSteps

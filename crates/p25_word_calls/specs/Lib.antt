@@ -1,4 +1,0 @@
-pub mod Answers
-pub mod Blocks
-pub mod Numbers
-pub mod Symbols
