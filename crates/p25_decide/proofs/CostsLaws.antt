@@ -1,5 +1,5 @@
--- Costs of soft symbols: how many there are, how much each is, and that they tell dibits apart. The distance of two soft symbols is at most the sum of
--- their distances from a third, also where 96 counts at most, and the square of a sum is at most twice the sum of the squares.
+-- Costs of soft symbols: their number, a bound for each, and that they separate dibits. The distance of two soft symbols is at most the sum of their distances
+-- from a third, also if 96 counts at most, and the square of a sum is at most twice the sum of the squares.
 use Rattle.std.proofs.Common.{◌≡◌, ℕ, zero, suc, ◌+◌, ◌*◌, ◌^◌, ◌<◌, ◌≤◌, true, leb, List, [], ◌∷◌, length, get_or, All, refl, ap, sym, ◌∙◌, arith, ℤ, pos, ◌-ℤ◌}
 use Rattle.std.proofs.{Math.Nat.{mul-le-mul}, lemmas.Bool.{leb-true}, lemmas.Int.{ints}, lemmas.List.Elements.{All-nil, All-cons}}
 use Rattle.std.specs.Prelude.{unsigned_abs, min, slice_index_or}

@@ -1,5 +1,5 @@
--- As many bits as there were, and the front of the unit as it was: an outer codeword that is found has as many symbols as those that were
--- read, so a field has all its codewords, and these are written after the front.
+-- As many bits as there were, with sync and NID unchanged: an outer codeword that is found has as many symbols as those that were read. So a field has all its
+-- codewords, and these are written after sync and NID.
 use Rattle.std.proofs.Common.{◌≡◌, ℕ, zero, suc, ◌+◌, ◌-◌, ◌*◌, ◌≤◌, ◌⊎◌, inl, inr, Bool, true, nat_le, List, [], ◌∷◌, length, take, All, Option, Some, None, refl, ap, sym, subst, ◌∙◌, arith, ℤ}
 use Rattle.std.proofs.lemmas.{Bool.{leb-true, and_parts}, List.Elements.{All-nil, All-cons}}
 use Rattle.std.specs.{Option.{option_or}, List.{list_all}}
@@ -16,7 +16,7 @@ one_of_two : {X : Type 0} (first second : Option X) (x : X) → option_or first 
 one_of_two None second x is = inr is
 one_of_two (Some y) second x is = inl is
 
--- what is found is what one of the readings found
+-- the result is that of one of the decodings
 found_in : {X : Type 0} (n : ℕ) (reading : ℕ → Option X) (x : X) → first_found n reading ≡ Some x → (v : ℕ) × (reading v ≡ Some x)
 unfolding first_found
 found_in zero reading x found = absurd (cc)
@@ -68,7 +68,7 @@ module _ {IsInner : List Bool → Type 0} (size each : ℕ) (long : (word : List
       let enough : size * length places ≤ length field = omega (arith, ap (λ m. size * m) full, all) in
       (length-with_words size places field bare enough there, take-with_words size front places field bare enough there behind)
 
--- the positions that a test finds behind a front
+-- the positions that a test finds after `front`
 pub all_behind : (front : ℕ) (places : List ℕ) → list_all (nat_le front) places ≡ true → All (λ at. front ≤ at) places
 all_behind front [] test = All-nil (λ at. front ≤ at)
 all_behind front (at ∷ places) test =

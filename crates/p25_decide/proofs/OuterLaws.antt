@@ -30,7 +30,7 @@ outer-near words n k most costs sent code whole is near =
     = erased_read_as_sent (rs_is_code n k code) (erasures_within_of n k) list sent (rs_erased_reading_of n k list) (length-without_erased read marks ∙ long) (rs_erased_reads_as n k list) is cost in
     sym (decided_whole (rs_erased_reading_of n k) words costs most read (Some sent) refl (whole ∙ sym long) (sym found) refl)
 
--- nothing is found where no reading finds anything
+-- nothing is found if no decoding finds anything
 none_found : {X : Type 0} (n : ℕ) (reading : ℕ → Option X) → ((v : ℕ) → v < n → reading v ≡ None) → first_found n reading ≡ None
 none_found zero reading none = first_none reading
 none_found (suc n) reading none = first_next n reading (none_found n reading (λ v less. none v (omega arith))) ∙ none n (omega arith)
@@ -42,7 +42,7 @@ unfolding word_decided
 outer-first words outer most u costs word few none found =
     sym (first_at u most (read_erasing words outer costs) word few (none_found u (read_erasing words outer costs) none) (sym found))
 
--- and the symbols of the inner codewords where none is
+-- and the symbols of the inner codewords if none does
 pub outer-none : (words : InnerWords) (outer : List (Option Sym) → Option (List Sym)) (most : ℕ) (costs : List ℕ)
     → ((v : ℕ) → v ≤ most → read_erasing words outer costs v ≡ None) → symbols_decided words outer most costs ≡ symbols_read words costs
 unfolding symbols_decided word_decided

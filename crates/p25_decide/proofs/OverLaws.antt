@@ -1,4 +1,4 @@
--- Units changed one by one: along the items of a scan, where a stretch stays; and along the chains of stretches, whose units lie in them.
+-- Data units changed one by one: along the items of a scan, if a stretch stays; and along the chains of stretches, whose data units lie in them.
 use Rattle.std.proofs.Common.{◌≡◌, ℕ, ◌+◌, ◌-◌, ◌<◌, ◌≤◌, Bool, true, false, List, [], ◌∷◌, ◌++◌, length, take, drop, Option, Some, None, refl, ap, ap₂, sym, subst, ◌∙◌, arith, append_assoc, append-nil, length-append, length-drop}
 use Rattle.std.proofs.{Math.Seq.{take-add}, lemmas.List.{take-append-drop, take-append-le, drop-append-le, drop-drop, length-take-le, take_at, drop_at}}
 use Rattle.p25_units.specs.{Items.{covered, place_of, unit_item_of}, declared.item.Item.{Item}}
@@ -59,7 +59,7 @@ along-unit : (at : ℕ) (unit : Item) (units : List Item) → place_of unit ≡ 
 unfolding StartFrom
 along-unit at unit units place = omega (arith, place)
 
--- what is written of each item, where a stretch stays, is the bits with their units changed
+-- the output for each item, if a stretch stays, is the bits with their data units changed
 pub written-over : (change : Item → List Bool → List Bool) → ((item : Item) (sent : List Bool) → is_rest item ≡ true → change item sent ≡ sent) → (at : ℕ) (bits : List Bool)
     → written change (items_of at bits) bits ≡ over_units change at (units_among (items_of at bits)) bits
 written-over change stays at bits =
@@ -247,7 +247,7 @@ over-all change =
     over-next change place before stretch item items bits starts unit
     (later (place + covered item) (omega arith) (subst (λ i. Sound (unit_name i)) starts.first (unit-sound place bits))) at is_place sound)
 
--- what comes of what is followed, each unit changed, is what comes of the stretches of the bits as they came
+-- the bits of a follower, each data unit changed, are the stretches of the received bits, changed
 pub followed-over : (change : Item → List Bool → List Bool) (bits : List Bool)
     → over_units change 0 (units_by 0 None [] (items_of 0 bits) bits) (follow_of bits) ≡ stretches_over change 0 None [] (items_of 0 bits) bits
 unfolding follow_of

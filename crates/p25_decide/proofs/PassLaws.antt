@@ -1,4 +1,4 @@
--- One pass over the items writes what is decided of the stretches: what is settled of a stretch comes first, whatever items come after it.
+-- One pass over the items writes the decided stretches: the decided output for a stretch comes first, whatever items come after it.
 use Rattle.std.proofs.Common.{◌≡◌, ℕ, zero, suc, ◌+◌, ◌-◌, ◌<◌, ◌≤◌, Bool, true, false, inl, inr, List, [], ◌∷◌, ◌++◌, length, take, drop, Option, Some, None, refl, ap, ap₂, sym, subst, ◌∙◌, arith, append_assoc, append-nil, length-append, length-drop}
 use Rattle.std.proofs.lemmas.{Bool.{cases_Bool, cases_lt}, List.{length-take-le}}
 use Rattle.p25_units.specs.{Items.{covered}, declared.item.Item.{Item}}
@@ -31,7 +31,7 @@ left-sound-in (suc n) (Some before) bits few sound =
 left-sound : (before : Option (ℕ × ℕ)) (bits : List Bool) → Sound before → Sound (left_of before bits).before
 left-sound before bits sound = left-sound-in (length bits) before bits (omega arith) sound
 
--- what is settled of a stretch comes first
+-- the decided output for a stretch comes first
 stretches-settles : (change : Item → List Bool → List Bool) (at : ℕ) (before : Option (ℕ × ℕ)) (bits more : List Bool) (items : List Item) (tail : List Bool) → Sound before
     → stretches_over change at before (bits ++ more) items tail
     ≡ settled_over change at before bits ++ stretches_over change (at + length (settled_of before bits)) (left_of before bits).before ((left_of before bits).stretch ++ more) items tail
@@ -81,7 +81,7 @@ changed-unit : (change : Item → List Bool → List Bool) (at : ℕ) (kept : Fo
 unfolding changed_by before_item own_item behind_item
 changed-unit change at kept item items bits is = rw is refl
 
--- one pass writes what is decided of the stretches
+-- one pass writes the decided stretches
 changed-follows : (change : Item → List Bool → List Bool) (place at : ℕ) (kept : Follow) (items : List Item) (bits : List Bool) → items_of place bits ≡ items → Sound kept.before
     → changed_by change true at kept items bits ≡ stretches_over change at kept.before kept.stretch items bits
 unfolding changed_by

@@ -1,5 +1,4 @@
--- What stays of bits where codewords are written at positions: with each codeword as many bits stay as were there, and the bits before it and
--- after it.
+-- The bits that stay if codewords are written at positions: with each codeword as many bits stay as were there, and the bits before it and after it.
 use Rattle.std.proofs.Common.{◌≡◌, ℕ, ◌+◌, ◌*◌, ◌-◌, ◌<◌, ◌≤◌, ◌⊎◌, inl, inr, Bool, List, [], ◌∷◌, ◌++◌, length, take, drop, All, refl, ap, sym, subst, ◌∙◌, arith, append_assoc, length-append, length-drop}
 use Rattle.std.specs.Prelude.{slice_get}
 use Rattle.std.proofs.Math.Nat.{mul-suc}
@@ -7,7 +6,7 @@ use Rattle.std.proofs.lemmas.{List.{take-append-drop, take-append-le, take-take,
 use Rattle.p25_bits.proofs.PartLaws.{slice_get-front, slice_get-drop}
 use Rattle.p25_decide.specs.DecidedUnits.{with_words}
 
--- bits with one codeword instead of what is at a position
+-- bits with one codeword instead of those at a position
 abbrev with_word : ℕ → ℕ → List Bool → List Bool → List Bool
 with_word size at words bare = take at bare ++ (take size words ++ drop (at + size) bare)
 
@@ -47,7 +46,7 @@ word_after size at place words bare enough there behind =
     ∙ slice_get-drop (at + size) bare (place - (at + size))
     ∙ ap (slice_get bare) (sym more)
 
--- what is true of the first codeword, and of those after it
+-- the facts about the first codeword, and about those after it
 record Step (size at : ℕ) (places : List ℕ) (words bare : List Bool) : Type 0 where
   first : size ≤ length words
   here : at + size ≤ length bare

@@ -85,7 +85,7 @@ unfolding over_by
 over-none true change at bits end = chain-none change at bits end
 over-none false change at bits end = settled-none change at bits
 
--- what is settled first, where a step is made and where none is
+-- what is settled first, if a step is made and if none is
 pub kind-goes : (whole : Bool) (before : ℕ × ℕ) (bits : List Bool) (end : Option (ℕ × ℕ)) → (whole || nat_le 6912 (length bits)) ≡ true → settled_kind whole before bits end ≡ step_of before bits end
 unfolding settled_kind
 kind-goes whole before bits end goes = rw goes refl

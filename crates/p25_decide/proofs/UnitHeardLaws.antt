@@ -97,7 +97,7 @@ decided-no-unit levels (Whole place frame fixes) sent no_whole no_broken = absur
 decided-no-unit levels (Broken place count nac duid fields) sent no_whole no_broken = absurd (no_broken place count nac duid fields refl)
 decided-no-unit levels item sent no_whole no_broken = refl
 
--- ---- a unit at the front of bits
+-- ---- a unit at the beginning of bits
 
 voice_alone : (bits : List Bool) (count : ℕ) (nid : ℕ × ℕ) → has_sync bits ≡ true → identifier_of bits ≡ Some nid → IsVoiceKind nid.1 (take count bits) → 114 ≤ count → count ≤ length bits
     → need_of (take count bits) ≡ Length count

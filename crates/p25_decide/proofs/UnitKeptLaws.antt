@@ -1,4 +1,4 @@
--- Of a unit whose coded fields are decoded as many bits stay as there were, and its front: DUID by DUID.
+-- A data unit whose coded fields are decoded keeps its number of bits, and its sync and NID: DUID by DUID.
 use Rattle.std.proofs.Common.{◌≡◌, ℕ, ◌*◌, ◌≤◌, inl, inr, Bool, List, [], ◌∷◌, ◌++◌, length, take, Some, refl, ap, sym, subst, ◌∙◌, arith, ℤ, length-append}
 use Rattle.std.proofs.lemmas.Bool.{cases_eq}
 use Rattle.p25_bits.specs.Bits.{bits_of}
@@ -13,7 +13,7 @@ use Rattle.p25_decide.specs.DecidedUnits.{decided_bare, low_decided, with_low_sp
 use Rattle.p25_decide.proofs.{KeptLaws.{all_behind, with_field-kept}, PlacesLaws.{length-with_words, take-with_words}}
 use Rattle.p25_decide.proofs.UnitsLaws.{decided-header, decided-ldu1, decided-ldu2, decided-other, decided-tdulc}
 
--- bits that are as many as others, and begin with the same front
+-- bits that are as many as others, and begin with the same sync and NID
 abbrev IsKept : List Bool → List Bool → Type 0
 IsKept bare now = (length now ≡ length bare) × (take 112 now ≡ take 112 bare)
 

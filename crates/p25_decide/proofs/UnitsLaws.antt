@@ -38,7 +38,7 @@ decided-other duid levels bare no_header no_ldu1 no_ldu2 no_tdulc =
     ∙ cond-false (eqb duid 10) _ _ (ne_eqb duid 10 no_ldu2)
     ∙ cond-false (eqb duid 15) _ _ (ne_eqb duid 15 no_tdulc)
 
--- what is written of a unit of a DUID
+-- the output for a data unit of a DUID
 pub decided_by_duid : (duid kind : ℕ) (levels : List ℤ) (bare now value : List Bool) → duid ≡ kind → now ≡ value → decided_bare kind levels bare ≡ value → now ≡ decided_bare duid levels bare
 decided_by_duid duid kind levels bare now value same is decided = is ∙ sym decided ∙ ap (λ d. decided_bare d levels bare) (sym same)
 

@@ -11,7 +11,7 @@ use Rattle.p25_calls.proofs.{LieLaws.{lie-from}, TakingLaws.{answers-are-calls}}
 use Rattle.p25_recording_filters.specs.{ItemOutputs.{call_line, calls_line}, Commands.{CallsParts, calls_reporting}, Reports.{reported}}
 use Rattle.p25_recording_filters.proofs.ReportsLaws.{reported-cons, reported-nil}
 
--- the lines of some calls, after so many others
+-- the lines of some calls, after a number of others
 pub calls_written : Bool → ℕ → List Call → List ℕ
 calls_written ended count calls = flat_map call_line calls ++ cond ended (calls_line (count + length calls)) []
 

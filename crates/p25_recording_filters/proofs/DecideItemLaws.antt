@@ -68,7 +68,7 @@ decided-later first gone levels item raw later =
 
 -- ---- an item is given
 
--- where levels are held, before and after it
+-- the positions of the levels that are held, before and after it
 record IsMoved (place next : ℕ) (follow now : Follow) (covers : ℕ) : Type 0 where
   places : 2 * first_held place follow + ahead_of place follow ≡ place
   starts : 2 * first_held place follow + start_of place follow % 8 ≡ start_of place follow
@@ -234,7 +234,7 @@ own-written change item raw now is =
 
 -- ---- the levels of an item
 
--- a unit at the front of bits
+-- a unit at the beginning of bits
 record IsUnitItem (place : ℕ) (bits : List Bool) (item : Item) : Type 0 where
   count : ℕ
   synced : has_sync bits ≡ true

@@ -216,7 +216,7 @@ drained-room unfold_items enough scan follow levels deciding_so going none few =
       held,
     )
 
--- the input ends, where no level is left
+-- the input ends, if no level is left
 pub holding-done : (ahead : ℕ) (scan next : Scan) (levels : List ℤ) → IsHoldingAfter ahead scan levels → length levels % 4 ≡ 0 → next ≡ record scan { finished = true } → IsHoldingAfter ahead next levels
 holding-done ahead scan next levels holding whole is = record {
   held = rw is holding.held;

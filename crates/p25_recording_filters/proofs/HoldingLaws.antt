@@ -9,7 +9,7 @@ use Rattle.p25_soft.proofs.HardBitsLaws.{hard_bits-append, hard_bits-drop, hard_
 use Rattle.p25_recording_filters.specs.{SoftLevels.{grouped, scanned}, Softs.{IsHoldingAfter}}
 use Rattle.p25_recording_filters.proofs.SoftLevelsLaws.{filled-whole, length-grouped, scanned-append, scanned-split, ungrouped, ungrouped-none}
 
--- an item that was given begins at the place of the scanner
+-- an item that was given begins at the position of the scanner
 pub place-given : (scan next : Scan) (item : Item) (raw : List Bool) → Gave scan item raw next → (place_of item ≡ scan.place) × (item ≡ first_item scan.place scan.held)
 place-given scan next item raw gave =
     let parts = items_by-first scan.finished scan.place scan.held item (given next) gave.items in

@@ -55,7 +55,7 @@ module _ (kept bits : List Bool) (missing : ℕ) (few : length kept < 8) (missin
       let last : length (drop at bits) ≤ count = omega (arith, length-drop at bits) in
       rw (is, empty, take_all count (drop at bits) last, filled, drop-append-add)
 
--- byte k of a number is what is left of it by a power of 256
+-- byte k of a number is the last octet of its quotient by a power of 256
 byte_at-is : (k n : ℕ) → byte_at k n ≡ n / 256 ^ k % 256
 byte_at-is zero n = omega arith
 byte_at-is (suc k) n = refl

@@ -15,7 +15,7 @@ use Rattle.p25_recording_filters.specs.Recordings.{HasClosed, IsClosing, IsClosi
 use Rattle.p25_recording_filters.specs.Reports.{IgnoresBits, Reporting}
 use Rattle.p25_recording_filters.proofs.ReportsLaws.{behind-cons, behind-nil, reported-cons, reported-nil}
 
--- an item that was given begins at the place where it was held
+-- an item that was returned begins at the position from which bits were held
 pub gave-place : (before now : Scan) (item : Item) (raw : List Bool) → Gave before item raw now → place_of item ≡ before.place
 gave-place before now item raw gave =
     rw add-zero at (item-covers before.finished before.place before.held [] item (given now) gave.items).1
@@ -25,15 +25,14 @@ pub gave-fits : (before now : Scan) (item : Item) (raw : List Bool) → Gave bef
 gave-fits before now item raw gave = items-fit before.finished before.place before.held [] item (given now) gave.items
 
 module _ {R : Type 0} (reporting : Reporting R) where
-  -- what is written of an item and what is kept after it are those of the bits that it covers, where the report is given these bits
-  -- or looks at none
+  -- the output for an item and the bits kept after it are those for the bits that it covers, if the report is given these bits or examines none
   pub put-alike : (looks : Bool) → (looks ≡ false → IgnoresBits reporting) → (report : R) (item : Item) (raw bits : List Bool) → (looks ≡ true → raw ≡ bits)
       → (reporting.piece report item raw ≡ reporting.piece report item bits) × (reporting.behind report item raw ≡ reporting.behind report item bits)
   put-alike true ignores report item raw bits same =
       (rw (same refl), rw (same refl))
   put-alike false ignores report item raw bits same = ((ignores refl).piece report item raw bits, (ignores refl).behind report item raw bits)
 
-  -- what is held with octets that come
+  -- the bits that are held, with octets that come
   held-octets : (held : List Bool) (octets more : List ℕ) → held ++ octet_bits (octets ++ more) ≡ (held ++ octet_bits octets) ++ octet_bits more
   held-octets held octets more = rw (octet_bits-append, append_assoc)
 
@@ -58,7 +57,7 @@ module _ {R : Type 0} (reporting : Reporting R) where
     pauses = λ ended more. refl;
   }
 
-  -- what is written of bits whose first item is given
+  -- the output for bits whose first item is returned
   written-item : (ended : Bool) (report : R) (place next_place : ℕ) (bits left : List Bool) (item : Item)
       → items_by ended place bits ≡ item ∷ items_by ended next_place left → drop (covered item) bits ≡ left
       → bits_written reporting ended report place bits
@@ -109,7 +108,7 @@ module _ {R : Type 0} (reporting : Reporting R) where
   future-item gave_items Ended report scan next item raw same unclosed gave = given-ended report scan next item raw same gave
   future-item gave_items Closed report scan next item raw same unclosed gave = absurd (unclosed refl)
 
-  -- with no item to give, what comes at the end is given
+  -- if no item is left, the output at the end is returned
   pub future-close : (report : R) (scan : Scan) → scan.finished ≡ true
       → given scan ≡ [] → Progress (phase_future reporting report scan Ended) [] (reporting.closing report) (phase_future reporting report scan Closed)
   future-close report scan done none =
@@ -120,7 +119,7 @@ module _ {R : Type 0} (reporting : Reporting R) where
         pauses = λ ended more pause is. absurd (Contains-none pause is);
       }
 
-  -- with nothing to give, what the octets so far decide is written
+  -- if no output is left, the output that the octets so far determine is written
   pub future-idle : (phase : Phase) (report : R) (scan : Scan) → scan.finished ≡ has_ended phase → phase ≢ Ended → given scan ≡ [] → IsIdle (has_ended phase) (phase_future reporting report scan phase)
   unfolding IsIdle
   future-idle Reading report scan same unclosed none =
@@ -165,7 +164,7 @@ module _ {R : Type 0} (reporting : Reporting R) where
       no_items : (items : List Item) → [] ≡ item ∷ items → ⊥
       no_items items e = cc
 
-  -- what asking for the piece at the end answers
+  -- the result of the call for the chunk at the end
   close-none : (before now : RecordingParts R) (answer : Bool) (out : List ℕ)
       → answer ≡ false → now ≡ before → NextPiece (recording_future reporting before) (Ok answer) out (recording_future reporting now)
   unfolding NextPiece
@@ -188,7 +187,7 @@ module _ {R : Type 0} (reporting : Reporting R) where
       → NextPiece (recording_future reporting before) (Ok answer) out (recording_future reporting now)
   step-close before now answer out same none closing = close-by before.phase before.report before.scan now answer out same none closing
 
-  -- where it gave none, all that the octets so far decide is written
+  -- if it returned none, all output that the octets so far determine is written
   idle-by : (phase : Phase) (report : R) (scan : Scan) (now : RecordingParts R) (answer : Bool) (out : List ℕ) → scan.finished ≡ has_ended phase → given scan ≡ [] → answer ≡ false
       → IsClosingBy reporting phase (record { report = report; scan = scan; phase = phase }) answer out now
       → (now.phase ≡ Ended → ⊥) × (given now.scan ≡ []) × IsIdle (has_ended now.phase) (recording_future reporting now)

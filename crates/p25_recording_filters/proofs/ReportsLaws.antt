@@ -79,7 +79,7 @@ reported-changed ended report (item ∷ items) bits few =
     let few_left : length next.kept < 8 = omega (arith, length-drop (8 * (length all / 8)) all) in
     rw (reported-cons, reported-changed ended next items rest few_left, whole_octets-append all (changed_bits (change_of report.change) items rest), written-cons, append_assoc)
 
--- what a follower writes of items, one after the other
+-- the output of a follower for items, one after the other
 follows-nil : (ended : Bool) (kept : Follow) (bits : List Bool) → written_by ended kept [] bits ≡ cond ended (written_end kept) []
 unfolding written_by
 follows-nil ended kept bits = refl
@@ -90,12 +90,12 @@ follows-cons : (ended : Bool) (kept : Follow) (item : Item) (items : List Item) 
 unfolding written_by
 follows-cons ended kept item items bits = rw append_assoc
 
--- the octets that what is left at the end fills
+-- the octets that the bits left at the end fill
 closing-followed : (ended : Bool) (kept left : List Bool) → length kept < 8 → cond ended (whole_octets (kept ++ left)) [] ≡ whole_octets (kept ++ cond ended left [])
 closing-followed true kept left few = refl
 closing-followed false kept left few = rw (append-nil, whole_octets-few kept few)
 
--- the octets that the bits with the fronts written fill
+-- the octets that the bits with sync and NID written fill
 reported-written : (ended : Bool) (report : FollowedParts) (items : List Item) (bits : List Bool) → length report.kept < 8
     → reported followed_reporting ended report items bits ≡ whole_octets (report.kept ++ written_by ended report.follower items bits)
 reported-written ended report [] bits few =

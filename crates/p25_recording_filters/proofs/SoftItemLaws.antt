@@ -22,7 +22,7 @@ use Rattle.p25_recording_filters.proofs.{OctetsLaws.{whole_octets-append}, SoftL
 part_from_group : (place covers : ℕ) (levels : List ℤ) → part (place / 2 - first_level place) covers levels ≡ part (place % 8 / 2) covers levels
 part_from_group place covers levels = let at : place / 2 - first_level place ≡ place % 8 / 2 = omega arith in rw at
 
--- a broken packet at an even place is softened
+-- a broken packet at an even position is softened
 pub softened-even : (item : Item) (levels : List ℤ) (raw : List Bool)
     → is_even_packet item ≡ true → item_softened (first_level (place_of item)) levels item raw ≡ softened item (item_levels item levels) raw
 unfolding item_softened
@@ -64,7 +64,7 @@ softened-same : (item : Item) (first other : ℕ) (levels others : List ℤ) (ra
 unfolding item_softened
 softened-same item first other levels others raw same = rw same
 
--- levels before the group of a place are not looked at from there on
+-- levels before the group of a position do not matter from there on
 softened-later : (item : Item) (first gone : ℕ) (levels : List ℤ) (raw : List Bool) → first + gone ≤ place_of item / 2
     → item_softened first levels item raw ≡ item_softened (first + gone) (drop gone levels) item raw
 softened-later item first gone levels raw later =
@@ -72,7 +72,7 @@ softened-later item first gone levels raw later =
     softened-same item first (first + gone) levels (drop gone levels) raw
     (rw (part-drop (place_of item / 2 - (first + gone)) (covered item / 2) gone levels, at))
 
--- changes that are alike from a place on make the same of the items there
+-- changes that are alike from a position on have the same output for the items there
 changed-alike : (f g : Item → List Bool → List Bool) (from : ℕ) → ((item : Item) (raw : List Bool) → from ≤ place_of item → f item raw ≡ g item raw)
     → (items : List Item) (ended : Bool) (place : ℕ) (bits others : List Bool) → from ≤ place → items_by ended place bits ≡ items → changed_bits f items others ≡ changed_bits g items others
 changed-alike f g from alike [] ended place bits others late are = rw (written-nil, written-nil)
@@ -106,7 +106,7 @@ module _ (scan next : Scan) (levels : List ℤ) (item : Item) (raw : List Bool) 
   pub holding-next : IsHolding next (drop gone levels)
   holding-next = holding-after (scan.place % 8) (next.place % 8) gone scan next levels item raw holding gave gone-is.1 gone-is.2
 
-  -- what is written of it, and what is written after it
+  -- the output for it, and the output after it
   module _ (gave_items : GaveItems) (ended : Bool) (new : List ℤ) (kept : List Bool) (all_there : scan.finished ≡ true → (ended ≡ true) × (new ≡ [])) where
     -- its levels are among those of whole groups
     softened-given : item_softened (first_level scan.place) (scanned ended (levels ++ new)) item raw ≡ item_softened (first_level scan.place) levels item raw
@@ -155,7 +155,7 @@ module _ (scan next : Scan) (levels : List ℤ) (item : Item) (raw : List Bool) 
         (items_by ended next.place (drop (next.place % 8) (hard_bits (scanned ended left)))) (drop (next.place % 8) (hard_bits (scanned ended left))) in
         rw (first, written-cons change, own_bits, softened-given, behind-given, whole_octets-append (kept ++ own) rest, append_assoc)
 
--- a unit at the front of bits
+-- a data unit at the beginning of bits
 record IsUnitItem (place : ℕ) (bits : List Bool) (item : Item) : Type 0 where
   count : ℕ
   synced : has_sync bits ≡ true
@@ -170,7 +170,7 @@ unit-even place bits =
     (λ count synced needs even. record { count = count; synced = synced; needs = needs; is = refl })
     (λ field synced needs even. absurd (cc))
 
--- the parts of a broken packet at an even place
+-- the parts of a broken packet at an even position
 record IsEvenPacket (item : Item) : Type 0 where
   at : ℕ
   size : ℕ
@@ -187,7 +187,7 @@ even-parts (Broken at size nac duid fields) yes' =
     record { at = at; size = size; nac = nac; duid = duid; fields = fields; is = refl; packet = eqb-true duid 0xC both.0; even = eqb-true (at % 2) 0 both.1 }
 even-parts item yes' = absurd (cc)
 
--- a broken packet at an even place is heard from the levels of its bits
+-- a broken packet at an even position has the levels from which its bits were decided
 pub heard-given : (scan next : Scan) (levels : List ℤ) (item : Item) (raw : List Bool) → IsHolding scan levels → Gave scan item raw next → is_even_packet item ≡ true → IsHeardAmong item levels raw
 heard-given scan next levels item raw holding gave yes' =
     let given_item = place-given scan next item raw gave in
@@ -221,7 +221,7 @@ heard-given scan next levels item raw holding gave yes' =
           (subst (λ (i : Item). IsHeard i (part at half levels) (take count scan.held)) (sym unit.is) heard));
     }
 
--- the levels that go with an item that was given are there
+-- the levels that go with a returned item are there
 pub gone-given : (scan next : Scan) (levels : List ℤ) (item : Item) (raw : List Bool) → IsHolding scan levels → Gave scan item raw next
     → first_level (place_of item + covered item) - first_level (place_of item) ≤ length levels
 gone-given scan next levels item raw holding gave =

@@ -4,7 +4,7 @@ use Rattle.std.proofs.{Math.Seq.{take-append-add}, lemmas.List.{take-append-drop
 use Rattle.p25_bits.specs.Bits.{part}
 use Rattle.p25_recording_filters.specs.SoftLevels.{filled, grouped, scanned}
 
--- what is scanned of whole groups and others after them
+-- the scanned levels of whole groups and others after them
 filled-append : (beginning rest : List ℤ) → length beginning % 4 ≡ 0 → filled (beginning ++ rest) ≡ beginning ++ filled rest
 unfolding filled
 filled-append beginning rest whole =
@@ -53,7 +53,7 @@ pub grouped-ungrouped : (levels : List ℤ) → grouped levels ++ ungrouped leve
 unfolding grouped
 grouped-ungrouped levels = take-append-drop (4 * (length levels / 4)) levels
 
--- levels and those that come: the whole groups that are there, and what is scanned of the others
+-- levels and those that come: the whole groups that are there, and the scanned levels of the others
 pub scanned-split : (ended : Bool) (levels new : List ℤ) → scanned ended (levels ++ new) ≡ grouped levels ++ scanned ended (ungrouped levels ++ new)
 scanned-split ended levels new =
     let whole : length (grouped levels) % 4 ≡ 0 = omega (arith, length-grouped levels) in

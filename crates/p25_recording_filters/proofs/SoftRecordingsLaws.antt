@@ -61,7 +61,7 @@ step-item gave_items before now out holding put =
     subst (λ (b : Bool). Progress (soft_future_by before.scan.finished before) [] out (soft_future_by b now)) (sym put.gave.same)
     (item_by gave_items before.scan.finished before now out refl holding put)
 
--- with nothing to give, what the levels so far decide is written
+-- if no item is left, the output that the levels so far determine is written
 written-none : (ended : Bool) (place : ℕ) (all : List ℤ) (kept : List Bool) → items_by ended place (drop (place % 8) (hard_bits all)) ≡ [] → length kept < 8
     → whole_octets (kept ++ changed_bits (item_softened (first_level place) all) (items_by ended place (drop (place % 8) (hard_bits all))) (drop (place % 8) (hard_bits all))) ≡ []
 written-none ended place all kept none few =
@@ -99,7 +99,7 @@ holding-fresh scan levels empty none = record {
 pub fresh-none : given (record { place = 0; held = []; finished = false }) ≡ []
 fresh-none = items_by-nil false 0
 
--- the input ends, where no level is left
+-- the input ends, if no level is left
 pub holding-finish : (scan next : Scan) (levels : List ℤ) → IsHolding scan levels → length levels % 4 ≡ 0 → next ≡ record scan { finished = true } → IsHolding next levels
 holding-finish scan next levels holding whole is =
     let place : next.place ≡ scan.place = ap (λ (s : Scan). s.place) is in
@@ -117,7 +117,7 @@ step-size before now out holding put =
     let there = gone-there before.scan now.scan before.levels put.item put.raw holding put.gave in
     omega (arith, ap length put.left, length-drop gone before.levels, there, put.gave.place)
 
--- an item that was given, with what was put of it
+-- an item that was returned, and its output
 pub PutSoftItem-from : (before now : SoftParts) (out : List ℕ) (item : Item) (raw : List Bool) → IsHolding before.scan before.levels → Gave before.scan item raw now.scan
     → out ≡ whole_octets (before.kept ++ item_softened (first_level (place_of item)) before.levels item raw)
     → now.kept ≡ unfilled (before.kept ++ item_softened (first_level (place_of item)) before.levels item raw)

@@ -113,7 +113,7 @@ body-within nac (Voice voice) state received sendable long is =
     within_from_words nac voice (voice_image_of nac voice) received (IsVoiceImage-same nac voice sendable) long (voice-within voice state (voice_image_of nac voice) received is)
 body-within nac (Packet packet) state received sendable long is = packet-within packet state (packet_image_of nac packet) received long is
 
--- The front of a sent unit, by its bits without status symbols.
+-- Sync and NID of a transmitted data unit, by its bits without status symbols.
 sent-front : (blocks : ℕ) (sent : List Bool) → 2 ≤ blocks → length sent ≡ 72 * blocks
     → (take 48 sent ≡ part 0 48 (bare_of sent)) × (take 63 (identifier_bits sent) ≡ part 48 63 (bare_of sent))
 unfolding front_of

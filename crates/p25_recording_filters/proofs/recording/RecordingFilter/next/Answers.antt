@@ -13,7 +13,7 @@ no_piece answer same = cc
 no_items : (items : List Item) (item : Item) → [] ≡ item ∷ items → ⊥
 no_items items item e = cc
 
--- an item was taken, with its bits where the report looks at them, and nothing else changed
+-- an item was taken, with its bits if the report examines them, and nothing else changed
 abbrev IsTaken : {R : Type 0} → Bool → Inside R → Inside R → Type 0
 IsTaken looks before now =
     Gave before.scanner now.item (take (covered now.item) before.scanner.held) now.scanner

@@ -10,7 +10,7 @@ use Rattle.p25_recording_filters.proofs.soft.Soft.put_next.Goals as goal
 abbrev parts : Scan → List ℤ → List Bool → SoftParts
 parts scan levels kept = record { scan = scan; levels = levels; kept = kept }
 
--- what a scanner gave
+-- the item that a scanner returned
 gave-some : (scan next : Scan) (before raw : List Bool) (result : Option Item) (item : Item)
     → MatchOption result ((given scan ≡ []) × (next ≡ scan) × (raw ≡ before)) (λ item. Gave scan item raw next) → result ≡ Some item → Gave scan item raw next
 gave-some scan next before raw result item gave is =
@@ -44,7 +44,7 @@ drop_front-requires c =
     let gone = gone-given s.scanner c.next.new.self s.levels c.in-Some.item c.next.new.raw c.self.invariant.0 gave in
     omega (arith, gone, ap₂ (λ (place count : ℕ). first_level (place + count) - first_level place) c.place-place.ensures c.covered.ensures.value)
 
--- the item that was put, by the parts of the recording
+-- the item that was written, by the parts of the recording
 put_of : (before now : SoftParts) (old_raw raw : List Bool) (out : List ℕ) (result : Option Item) (item : Item) → IsHolding before.scan before.levels
     → MatchOption result ((given before.scan ≡ []) × (now.scan ≡ before.scan) × (raw ≡ old_raw)) (λ item. Gave before.scan item raw now.scan) → result ≡ Some item
     → out ≡ whole_octets (before.kept ++ item_softened (first_level (place_of item)) before.levels item raw)
