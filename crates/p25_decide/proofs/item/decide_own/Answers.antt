@@ -42,28 +42,35 @@ pub decide_unit-requires-clause-kind : goal.decide_unit-requires-clause-kind
 decide_unit-requires-clause-kind c =
     let duid = same-duid c.duid-duid.result c.body.result.now c.in-Whole.frame c.duid-duid.ensures.value c.body.ensures in
     let other : body_duid c.in-Whole.frame.unit.body ≢ 0xC = λ packet. c.if-duid-ne-PDU.true (duid ∙ packet) in
-    let fits = whole-fits c.args.levels.now c.args.raw.now c.in-Whole.place c.in-Whole.frame c.in-Whole.fixes (whole-heard c.args.item.now c.args.levels.now c.args.raw.now c.in-Whole.place c.in-Whole.frame c.in-Whole.fixes c.requires c.in-Whole.is) other in
+    let fits = whole-fits c.args.levels.now c.args.raw.now c.in-Whole.place c.in-Whole.frame c.in-Whole.fixes
+    (whole-heard c.args.item.now c.args.levels.now c.args.raw.now c.in-Whole.place c.in-Whole.frame c.in-Whole.fixes c.requires c.in-Whole.is) other in
     subst (λ d. voice_length_of d ≡ Some (70 * (length c.args.levels.now / 36))) (sym duid) fits.bare
 
 pub decide_unit-requires-clause-whole : goal.decide_unit-requires-clause-whole
 decide_unit-requires-clause-whole c =
     let duid = same-duid c.duid-duid.result c.body.result.now c.in-Whole.frame c.duid-duid.ensures.value c.body.ensures in
     let other : body_duid c.in-Whole.frame.unit.body ≢ 0xC = λ packet. c.if-duid-ne-PDU.true (duid ∙ packet) in
-    (whole-fits c.args.levels.now c.args.raw.now c.in-Whole.place c.in-Whole.frame c.in-Whole.fixes (whole-heard c.args.item.now c.args.levels.now c.args.raw.now c.in-Whole.place c.in-Whole.frame c.in-Whole.fixes c.requires c.in-Whole.is) other).blocks
+    (whole-fits c.args.levels.now c.args.raw.now c.in-Whole.place c.in-Whole.frame c.in-Whole.fixes
+    (whole-heard c.args.item.now c.args.levels.now c.args.raw.now c.in-Whole.place c.in-Whole.frame c.in-Whole.fixes c.requires c.in-Whole.is) other).blocks
 
 pub decide_unit-requires-clause-levels : goal.decide_unit-requires-clause-levels
 decide_unit-requires-clause-levels c =
     twice (Whole c.in-Whole.place c.in-Whole.frame c.in-Whole.fixes) c.args.levels.now c.args.raw.now (whole-heard c.args.item.now c.args.levels.now c.args.raw.now c.in-Whole.place c.in-Whole.frame c.in-Whole.fixes c.requires c.in-Whole.is)
 
 pub decide_unit-requires-else-duid-eq-PDU-clause-kind : goal.decide_unit-requires-else-duid-eq-PDU-clause-kind
-decide_unit-requires-else-duid-eq-PDU-clause-kind c = (broken-fits c.args.levels.now c.args.raw.now c.in-Broken.place c.in-Broken.length c.in-Broken.nac c.in-Broken.duid c.in-Broken.fields (broken-heard c.args.item.now c.args.levels.now c.args.raw.now c.in-Broken.place c.in-Broken.length c.in-Broken.nac c.in-Broken.duid c.in-Broken.fields c.requires c.in-Broken.is) c.if-duid-eq-PDU.false).bare
+decide_unit-requires-else-duid-eq-PDU-clause-kind c =
+    (broken-fits c.args.levels.now c.args.raw.now c.in-Broken.place c.in-Broken.length c.in-Broken.nac c.in-Broken.duid c.in-Broken.fields
+    (broken-heard c.args.item.now c.args.levels.now c.args.raw.now c.in-Broken.place c.in-Broken.length c.in-Broken.nac c.in-Broken.duid c.in-Broken.fields c.requires c.in-Broken.is) c.if-duid-eq-PDU.false).bare
 
 pub decide_unit-requires-else-duid-eq-PDU-clause-whole : goal.decide_unit-requires-else-duid-eq-PDU-clause-whole
-decide_unit-requires-else-duid-eq-PDU-clause-whole c = (broken-fits c.args.levels.now c.args.raw.now c.in-Broken.place c.in-Broken.length c.in-Broken.nac c.in-Broken.duid c.in-Broken.fields (broken-heard c.args.item.now c.args.levels.now c.args.raw.now c.in-Broken.place c.in-Broken.length c.in-Broken.nac c.in-Broken.duid c.in-Broken.fields c.requires c.in-Broken.is) c.if-duid-eq-PDU.false).blocks
+decide_unit-requires-else-duid-eq-PDU-clause-whole c =
+    (broken-fits c.args.levels.now c.args.raw.now c.in-Broken.place c.in-Broken.length c.in-Broken.nac c.in-Broken.duid c.in-Broken.fields
+    (broken-heard c.args.item.now c.args.levels.now c.args.raw.now c.in-Broken.place c.in-Broken.length c.in-Broken.nac c.in-Broken.duid c.in-Broken.fields c.requires c.in-Broken.is) c.if-duid-eq-PDU.false).blocks
 
 pub decide_unit-requires-else-duid-eq-PDU-clause-levels : goal.decide_unit-requires-else-duid-eq-PDU-clause-levels
 decide_unit-requires-else-duid-eq-PDU-clause-levels c =
-    twice (Broken c.in-Broken.place c.in-Broken.length c.in-Broken.nac c.in-Broken.duid c.in-Broken.fields) c.args.levels.now c.args.raw.now (broken-heard c.args.item.now c.args.levels.now c.args.raw.now c.in-Broken.place c.in-Broken.length c.in-Broken.nac c.in-Broken.duid c.in-Broken.fields c.requires c.in-Broken.is)
+    twice (Broken c.in-Broken.place c.in-Broken.length c.in-Broken.nac c.in-Broken.duid c.in-Broken.fields) c.args.levels.now c.args.raw.now
+    (broken-heard c.args.item.now c.args.levels.now c.args.raw.now c.in-Broken.place c.in-Broken.length c.in-Broken.nac c.in-Broken.duid c.in-Broken.fields c.requires c.in-Broken.is)
 
 pub returns-then-duid-ne-PDU : goal.returns-then-duid-ne-PDU
 returns-then-duid-ne-PDU c =
@@ -80,7 +87,8 @@ returns-else-duid-ne-PDU c =
     let raw = c.args.raw.now in
     let duid = same-duid c.duid-duid.result c.body.result.now c.in-Whole.frame c.duid-duid.ensures.value c.body.ensures in
     let packet : c.duid-duid.result ≡ 0xC = omega (arith, c.if-duid-ne-PDU.false) in
-    decided-packet levels c.in-Whole.place c.in-Whole.frame c.in-Whole.fixes raw (sym duid ∙ packet) (whole-heard c.args.item.now c.args.levels.now c.args.raw.now c.in-Whole.place c.in-Whole.frame c.in-Whole.fixes c.requires c.in-Whole.is).covers
+    decided-packet levels c.in-Whole.place c.in-Whole.frame c.in-Whole.fixes raw (sym duid ∙ packet)
+    (whole-heard c.args.item.now c.args.levels.now c.args.raw.now c.in-Whole.place c.in-Whole.frame c.in-Whole.fixes c.requires c.in-Whole.is).covers
     ∙ ap (λ (i : Item). unit_decided levels i raw) (sym c.in-Whole.is)
 
 pub returns-then-duid-eq-PDU : goal.returns-then-duid-eq-PDU
