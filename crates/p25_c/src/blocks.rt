@@ -10,9 +10,9 @@ ghost use Rattle.p25_trellis.specs.{Tables.{half_point, three_quarter_point}, Tr
 ghost use Rattle.p25_soft.specs.SoftPaths.{soft_cost, soft_octets};
 ghost use Rattle.p25_c.specs.Blocks.{block_bits};
 
+use crate::word_calls::{read_octet_block, write_octet_block};
 use p25_soft::read_soft;
 use p25_trellis::{Half, ThreeQuarter};
-use crate::word_calls::{read_octet_block, write_octet_block};
 
 /// Sets the octets to those of the first path at half rate that differs from the bits in the fewest, and returns in how many.
 /// There always is one: the CRC of the block decides. Two bit errors are corrected in any case. The call does not look at the

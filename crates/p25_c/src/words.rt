@@ -7,9 +7,9 @@ ghost use Rattle.p25_golay.specs.{Golay18.{IsGolay18}, Golay18Laws.{golay18_read
 ghost use Rattle.p25_hamming.specs.{Hamming10.{IsHamming10}, Hamming10Laws.{hamming10_reading_of}, Lsd16.{IsLsd16}, Lsd16Laws.{lsd16_reading_of}};
 ghost use Rattle.p25_c.specs.Numbers.{IsIdentifierReading, IsIdentifierWriting, IsNumberReading, IsNumberWriting};
 
+use crate::word_calls::{read_identifier, read_number, write_identifier, write_number};
 use p25_golay::{Golay18, Golay24};
 use p25_hamming::{Hamming10, Lsd16};
-use crate::word_calls::{read_identifier, read_number, write_identifier, write_number};
 
 // What a `read` of a codeword returns in place of the number of letters, symbols or bits, that it corrected. The codeword stays then.
 

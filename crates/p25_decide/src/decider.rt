@@ -73,14 +73,7 @@ impl Decider {
     }
 
     // Takes an item of a stretch.
-    fn take_rest(
-        &mut self,
-        item: &Item,
-        raw: &BitBuf,
-        from: usize,
-        levels: &[i8],
-        out: &mut BitBuf,
-    )
+    fn take_rest(&mut self, item: &Item, raw: &BitBuf, from: usize, levels: &[i8], out: &mut BitBuf)
         requires rest { is_rest item.now ≡ true }
         requires sound { IsSoundItem item.now }
         requires short { length raw.now ≤ 4096 }
@@ -106,14 +99,7 @@ impl Decider {
     }
 
     // Takes a data unit, or a sync with too few bits after it.
-    fn take_unit(
-        &mut self,
-        item: &Item,
-        raw: &BitBuf,
-        from: usize,
-        levels: &[i8],
-        out: &mut BitBuf,
-    )
+    fn take_unit(&mut self, item: &Item, raw: &BitBuf, from: usize, levels: &[i8], out: &mut BitBuf)
         requires unit { is_rest item.now ≡ false }
         requires sound { IsSoundItem item.now }
         requires levels { from + length self.old.stretch ≤ 2 * length levels.now }

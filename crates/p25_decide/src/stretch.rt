@@ -32,14 +32,7 @@ fn settled_kind(
 
 // Appends the bits of a voice data unit of a type that are at a position among settled ones. `from` is the number of bits
 // before them for which there are soft symbols: if it is even, the coded fields are decoded.
-fn put_unit(
-    kind: u8,
-    settled: &BitBuf,
-    at: usize,
-    from: usize,
-    levels: &[i8],
-    out: &mut BitBuf,
-)
+fn put_unit(kind: u8, settled: &BitBuf, at: usize, from: usize, levels: &[i8], out: &mut BitBuf)
     requires kind { 144 ≤ kind_length kind }
     requires there { at + kind_length kind ≤ length settled.now }
     requires levels { from + kind_length kind ≤ 2 * length levels.now }

@@ -181,7 +181,7 @@ module _ (scan next : Scan) (follow : Follow) (levels : List ℤ) (item : Item) 
       = ap₂ placed (sym goes.gone_is) (sym (scanned-gone ahead after gone-by scan next levels item raw deciding.holding gave goes.moves goes.groups ended new)) in
       let alike : (other : Item) (sent : List Bool) → start_of next.place now ≤ place_of other → item_decided all other sent ≡ item_decided later other sent
       = λ other sent late.
-        decided-later first gone-by scanned_all other sent (omega (arith, goes.gone_is, goes.start_later, late)) ∙ ap (λ (ls : List ℤ). item_decided ls other sent) (sym same) in
+      decided-later first gone-by scanned_all other sent (omega (arith, goes.gone_is, goes.start_later, late)) ∙ ap (λ (ls : List ℤ). item_decided ls other sent) (sym same) in
       let after_start : start_of next.place now ≤ next.place = omega arith in
       let rest = drop next.place (hard_bits later) in
       let tail = changed_by (item_decided later) ended (start_of next.place now) now (items_by ended next.place rest) rest in

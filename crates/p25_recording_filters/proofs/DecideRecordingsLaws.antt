@@ -209,8 +209,7 @@ pub drained-room : ItemsUnfold → EnoughDecide → (scan : Scan) (follow : Foll
     → (length levels < 16420) × (scan.place < 2 ^ 31) × (length scan.held < 25920)
 drained-room unfold_items enough scan follow levels deciding_so going none few =
     let held = drained-few unfold_items enough scan going none in
-    let ahead = length-held (ahead_of scan.place follow) scan levels deciding_so.holding in
-    (
+    let ahead = length-held (ahead_of scan.place follow) scan levels deciding_so.holding in (
       omega (arith, held, ahead, few, deciding_so.there, length-grouped levels),
       omega (arith, deciding_so.few, few, deciding_so.there),
       held,

@@ -80,4 +80,3 @@ pub(crate) fn fill(levels: &mut HeldLevels, scanner: &mut Scanner)
         hear(levels, FILLER, scanner);
     }
 }
-

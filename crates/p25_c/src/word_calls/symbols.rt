@@ -33,7 +33,10 @@ pub(crate) fn read_symbols<const N: usize, const K: usize>(octets: &mut [u8]) ->
 /// `erased` are not known. Returns the number of symbols that changed if, for some codeword, twice the wrong symbols
 /// among the others plus the erased ones are at most N - K. Then the octets become those of that codeword. Returns -1
 /// if there is none, and -2 if an octet is above 63, an erased one too; then nothing is changed.
-pub(crate) fn read_with_erased<const N: usize, const K: usize>(octets: &mut [u8], erased: &[bool]) -> i32
+pub(crate) fn read_with_erased<const N: usize, const K: usize>(
+    octets: &mut [u8],
+    erased: &[bool],
+) -> i32
     requires code { IsCode N K }
     requires long { length octets.old ≡ N }
     requires erased { length erased.now ≡ N }

@@ -82,13 +82,7 @@ impl Default for Followed {
 
 // Writes to `out` the octets that bits, and then the bits of an item unless it belongs to a stretch, fill after kept ones,
 // and keeps the bits that are left.
-pub(crate) fn put_item(
-    item: &Item,
-    bits: &BitBuf,
-    raw: &BitBuf,
-    kept: &mut BitBuf,
-    out: &mut Line,
-)
+pub(crate) fn put_item(item: &Item, bits: &BitBuf, raw: &BitBuf, kept: &mut BitBuf, out: &mut Line)
     requires { length kept.old < 8 }
     ensures octets { out.new ≡ whole_octets (kept.old ++ (bits.now ++ written_item item.now raw.now)) }
     ensures kept { kept.new ≡ unfilled (kept.old ++ (bits.now ++ written_item item.now raw.now)) }

@@ -100,8 +100,8 @@ invariant_of-self c =
     c.covered.ensures.value c.kept.ensures.value c.take.ensures.behind c.kept-2.ensures.value in
     let left = c.drop_front.ensures ∙ ap (λ n. drop n s.levels) gone in (
       subst (λ (ls : List ℤ). IsDeciding next c.take.new.self ls) (sym left)
-      (subst (λ (f : Follow). IsDeciding next f (drop (first_held next.place (behind_item s.decider item raw) - first_held s.scanner.place s.decider) s.levels)) (sym c.take.ensures.behind)
-      (deciding-next s.scanner next s.decider s.levels item raw c.self.invariant.0 gave)),
+          (subst (λ (f : Follow). IsDeciding next f (drop (first_held next.place (behind_item s.decider item raw) - first_held s.scanner.place s.decider) s.levels)) (sym c.take.ensures.behind)
+          (deciding-next s.scanner next s.decider s.levels item raw c.self.invariant.0 gave)),
       c.put_item.ensures.few,
       omega (arith, c.self.invariant.2, gave.place, c.covered.ensures.value),
       gave.same ∙ c.self.invariant.3,

@@ -32,7 +32,7 @@ invariant_of-self c =
     = ap length c.hear_some.ensures.list ∙ length-append s.levels (map octet_level (take c.hear_some.result octets))
     ∙ ap (λ n. length s.levels + n) (length-map (take c.hear_some.result octets) octet_level ∙ length-take-le c.hear_some.result octets c.hear_some.ensures.there) in (
       deciding-push s.scanner new.scanner s.decider s.levels new.levels c.self.invariant.0 c.hear_some.ensures.place c.hear_some.ensures.holding
-      (omega (arith, size, count, c.hear_some.ensures.there)),
+          (omega (arith, size, count, c.hear_some.ensures.there)),
       c.self.invariant.1,
       c.self.invariant.2 ∙ sym c.hear_some.ensures.place,
       c.hear_some.ensures.going ∙ sym going,

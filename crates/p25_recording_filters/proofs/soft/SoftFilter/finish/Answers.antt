@@ -23,7 +23,7 @@ invariant_of-self c =
     let few : first_level s.scanner.place + length s.levels < 2 ^ 28 = subst (λ (r : SoftParts). first_level r.scan.place + length r.levels < 2 ^ 28) (sym c.self.view_is) c.requires.few in
     let place = ap (λ (t : Scan). t.place) c.finish.ensures in (
       holding-finish c.fill.new.scanner c.finish.new.self c.fill.new.levels (holding-push s.scanner c.fill.new.scanner s.levels c.fill.new.levels c.self.invariant.0 c.fill.ensures.place c.fill.ensures.holding)
-      c.fill.ensures.full c.finish.ensures,
+          c.fill.ensures.full c.finish.ensures,
       c.self.invariant.1,
       omega (arith, few, place, c.fill.ensures.place, c.fill.ensures.few),
     )
