@@ -349,7 +349,8 @@ void p25_follower_begin_at(p25_follower *follower, uint64_t place);
    An item is refused whose kind is none of the five; a whole or a broken data unit whose NAC is above 4095, whose
    DUID is above 15, or whose bits are fewer than 144 or no multiple of 72; and a nounit or a gap of more than 4,096
    bits. A follower is refused that keeps 6,912 bits or more, or some without a data unit before them, whose NAC is
-   above 4095 or whose DUID is above 15, or of which 8 bits or more wait. Since 1.1. */
+   above 4095 or whose DUID is above 15, or of which 8 bits or more wait; these calls set no such follower. Since
+   1.1. */
 int32_t p25_follower_take(p25_follower *follower, const uint8_t *octets, size_t n, uint64_t begin, const p25_item *item,
                           uint8_t *into, size_t room);
 

@@ -153,7 +153,7 @@ bridged-units nac status fits =
 
 -- ---- the octets of an item
 
-filled-short : (bits : List Bool) → length bits ≤ 25920 → length (whole_octets (filled bits)) ≤ 3240
+pub filled-short : (bits : List Bool) → length bits ≤ 25920 → length (whole_octets (filled bits)) ≤ 3240
 filled-short bits few =
     let missing = (8 - length bits % 8) % 8 in
     let count = length-numbers_from 8 (length (filled bits) / 8) (filled bits) in
@@ -175,7 +175,7 @@ cuts-short begin place count octets =
 -- ---- the number that a call returns that writes a unit
 
 -- it is that of the octets, if it is a number of them
-answer-count : (octets room left : List ℕ) (answer : ℤ) (count : ℕ) → IsWriting (Ok octets) room left answer → answer ≡ pos count → count ≡ length octets
+pub answer-count : (octets room left : List ℕ) (answer : ℤ) (count : ℕ) → IsWriting (Ok octets) room left answer → answer ≡ pos count → count ≡ length octets
 answer-count octets room left answer count writing same =
     let test = nat_le (length octets) (length room) in
     let is = sym writing.answer_is ∙ same in

@@ -45,7 +45,7 @@ module _ (recording : List ℕ) (from : ℕ) (piece : Given) (is : IsPiece recor
   here = drop (from - piece.begin) (octet_bits piece.octets)
 
   -- the bits of a recording from a position on are those of the chunk and those after it
-  piece-bits : piece.begin ≤ from → from ≤ piece.begin + 8 * length piece.octets → drop from bits ≡ here ++ octet_bits is.after
+  pub piece-bits : piece.begin ≤ from → from ≤ piece.begin + 8 * length piece.octets → drop from bits ≡ here ++ octet_bits is.after
   piece-bits after within =
       let front = octet_bits is.before in
       let at_is : from ≡ 8 * length is.before + (from - piece.begin) = omega (arith, is.begins) in
@@ -59,7 +59,7 @@ module _ (recording : List ℕ) (from : ℕ) (piece : Given) (is : IsPiece recor
       ∙ drop-append-le (from - piece.begin) (octet_bits piece.octets) (octet_bits is.after) fits
 
   -- the item that is returned is the first of those of the whole recording
-  by_asked : (asked : Option (List Item)) (item : Item) → items_asked piece.ended piece.begin from piece.octets ≡ asked → BeginsWith asked item
+  pub by_asked : (asked : Option (List Item)) (item : Item) → items_asked piece.ended piece.begin from piece.octets ≡ asked → BeginsWith asked item
       → items_by true from (drop from bits) ≡ item ∷ items_by true (from + covered item) (drop (from + covered item) bits)
   by_asked None item asked_is begins = absurd begins
   by_asked (Some []) item asked_is begins = absurd begins
@@ -87,7 +87,7 @@ module _ (recording : List ℕ) (from : ℕ) (piece : Given) (is : IsPiece recor
       ap (items_by true from) last ∙ asked.1
 
 -- the items that are returned, and the items after them
-told-items : (recording : List ℕ) (from : ℕ) (givens : List Given) (items : List Item) → AreTold recording from givens items
+pub told-items : (recording : List ℕ) (from : ℕ) (givens : List Given) (items : List Item) → AreTold recording from givens items
     → items_by true from (drop from (octet_bits recording)) ≡ items ++ items_by true (from + sum_by covered items) (drop (from + sum_by covered items) (octet_bits recording))
 told-items recording from [] [] told =
     let same : from ≡ from + sum_by covered [] = omega arith in

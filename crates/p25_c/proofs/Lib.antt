@@ -10,7 +10,11 @@ pub mod StreamsSteps
 pub mod StreamCallsLaws
 pub mod DibitsSteps
 pub mod PacketsLaws
+pub mod PacketItemsLaws
 pub mod ValueLaws
 pub mod BoundsLaws
+pub mod LengthsLaws
+pub mod RelaysLaws
+pub mod KeptLaws
 pub mod FollowerLaws
 pub mod VoiceCallsLaws

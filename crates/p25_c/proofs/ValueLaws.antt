@@ -162,7 +162,7 @@ unit-open pending unit end false is before ends =
 
 -- ---- calls
 
-kept-true : (gap reached taken : ℕ) (pending : Option Call) → IfSome pending (IsPending reached taken) → is_kept (state_told gap reached taken pending) ≡ true
+pub kept-true : (gap reached taken : ℕ) (pending : Option Call) → IfSome pending (IsPending reached taken) → is_kept (state_told gap reached taken pending) ≡ true
 kept-true gap reached taken None held = refl
 kept-true gap reached taken (Some call) held =
     both_true (both_true (le-leb (call.place + call.bits) reached held.before) (le-leb call.links taken held.links)) (le-leb call.broken taken held.broken)
@@ -237,7 +237,7 @@ early (Some unit) pending reached taken end items true held at more lie over =
     let open' = unit-open pending unit end (is_voice unit && not (is_terminator unit)) refl (pending-places pending reached taken (unit_end unit) held (omega (arith, at, more))) at in
     let two = sym (over refl) ∙ open' in absurd (cc two)
 
-kept-if : (ends : Bool) (pending : Option Call) (end taken : ℕ) → IfSome pending (IsPending end taken) → IfSome (cond ends None pending) (IsPending end taken)
+pub kept-if : (ends : Bool) (pending : Option Call) (end taken : ℕ) → IfSome pending (IsPending end taken) → IfSome (cond ends None pending) (IsPending end taken)
 kept-if true pending end taken held = tt
 kept-if false pending end taken held = held
 

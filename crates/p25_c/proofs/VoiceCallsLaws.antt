@@ -8,32 +8,21 @@ use Rattle.p25_c.specs.{declared.calls.CallParts.{CallParts}, declared.calls.Cal
 use Rattle.p25_c.specs.VoiceCalls.{call_held, call_told, end_held, end_number, has_link, has_number, is_kept, link_held, link_octets, may_take, number_held, number_or_zero, pending_held, state_told}
 use Rattle.p25_c.specs.Values.{flag, is_set}
 
--- a run that is kept is pending at the bit that was reached
-run-pending : (b : Bool) (run : CallParts) (reached taken place : ℕ)
-    → cond b (nat_le (run.place + run.bits) reached && nat_le run.links taken && nat_le run.broken taken) true ≡ true → place ≡ reached → taken ≤ 2 ^ 32 - 2
-    → IfSome (cond b (Some (call_held run)) None) (IsPending place (2 ^ 32 - 2))
-run-pending true run reached taken place kept same few =
+-- the run that is kept is pending at the bit that was reached
+run-pending : (b : Bool) (run : CallParts) (reached taken : ℕ)
+    → cond b (nat_le (run.place + run.bits) reached && nat_le run.links taken && nat_le run.broken taken) true ≡ true
+    → IfSome (cond b (Some (call_held run)) None) (IsPending reached taken)
+run-pending true run reached taken kept =
     let two = first_so _ _ kept in
-    let before = leb-true (run.place + run.bits) reached (first_so _ _ two) in
-    let links = leb-true run.links taken (second_so _ _ two) in
-    let broken = leb-true run.broken taken (second_so _ _ kept) in
-    record { before = omega (arith, before, same); links = omega (arith, links, few); broken = omega (arith, broken, few) }
-run-pending false run reached taken place kept same few = tt
+    record {
+      before = leb-true (run.place + run.bits) reached (first_so _ _ two);
+      links = leb-true run.links taken (second_so _ _ two);
+      broken = leb-true run.broken taken (second_so _ _ kept);
+    }
+run-pending false run reached taken kept = tt
 
--- if an item may be taken, the run that is open is pending at its first bit
-pub take-pending : (state : CallerState) (item : ItemParts) → may_take state item ≡ true → IfSome (pending_held state) (IsPending item.place (2 ^ 32 - 2))
-take-pending state item may =
-    let three = first_so _ _ may in
-    let two = first_so _ _ three in
-    let few = ltb-true state.taken (2 ^ 32 - 1) (second_so _ _ may) in
-    let same = eqb-true item.place state.reached (second_so _ _ two) in
-    run-pending (is_set state.is_open) state.run state.reached state.taken item.place (first_so _ _ two) same (omega (arith, few))
-
-pub take-below : (state : CallerState) (item : ItemParts) → may_take state item ≡ true → item.place < 2 ^ 60
-take-below state item may = ltb-true item.place (2 ^ 60) (second_so _ _ (first_so _ _ may))
-
-pub take-few : (state : CallerState) (item : ItemParts) → may_take state item ≡ true → state.taken < 2 ^ 32 - 1
-take-few state item may = ltb-true state.taken (2 ^ 32 - 1) (second_so _ _ may)
+pub held-pending : (state : CallerState) → is_kept state ≡ true → IfSome (pending_held state) (IsPending state.reached state.taken)
+held-pending state kept = run-pending (is_set state.is_open) state.run state.reached state.taken kept
 
 -- ---- what is kept comes back
 

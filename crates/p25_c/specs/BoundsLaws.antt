@@ -4,6 +4,7 @@ use Rattle.p25_status.specs.declared.symbols.Status.{Status}
 use Rattle.p25_units.specs.{Items.{covered}, declared.item.Item.{Item}}
 use Rattle.p25_c.specs.{Building.{built, unit_bridged, unit_repaired}, Items.{duid_told, is_inside, items_asked, nac_told}}
 use Rattle.p25_c.specs.{Places.{bridged_at, item_cut, repaired_at}, Streams.{stream_asked, stream_room}, declared.stream.Stream.{Stream}}
+use Rattle.p25_c.specs.{Followers.{followed_octets, last_octets}, Relays.{relayed_at}, declared.followers.FollowerState.{FollowerState}, declared.items.ItemParts.{ItemParts}}
 
 -- ---- what decides an item
 
@@ -63,3 +64,16 @@ BridgedAreUnits =
 -- the bits of an item are written as 3,240 octets at most
 abbrev pub CutsAreShort : Type 0
 CutsAreShort = (begin place count : ℕ) (octets : List ℕ) → IfOk (item_cut begin place count octets) (λ cut. length cut ≤ 3240)
+
+-- and so are the bits that are forwarded in place of an item
+abbrev pub RelayedAreShort : Type 0
+RelayedAreShort =
+    (nac : ℕ) (status : Status) (begin from : ℕ) (octets : List ℕ) → nac < 4096 → IfOk (relayed_at nac status begin from octets) (λ sent. length sent ≤ 3240)
+
+-- a follower writes 4,104 octets of an item at most, and 864 at the end
+abbrev pub FollowedAreShort : Type 0
+FollowedAreShort =
+    (state : FollowerState) (item : ItemParts) (begin : ℕ) (octets : List ℕ) → IfOk (followed_octets state item begin octets) (λ written. length written ≤ 4104)
+
+abbrev pub LastAreShort : Type 0
+LastAreShort = (state : FollowerState) → IfOk (last_octets state) (λ written. length written ≤ 864)

@@ -5,8 +5,8 @@ use Rattle.p25_follow.specs.Followed.{follow_of, followed_by}
 use Rattle.p25_recording_filters.specs.Commands.{followed_reporting}
 use Rattle.p25_stream.specs.Items.{items_of}
 use Rattle.p25_units.specs.{Items.{covered, place_of}, Units.{whole_octets}, declared.item.Item.{Item}}
-use Rattle.p25_c.specs.{Calls.{Given, IsPiece}, Followers.{follower_told, fresh_follower, item_held, item_raw, parts_held}, Items.{parts_of}, Places.{has_item}}
-use Rattle.p25_c.specs.declared.followers.FollowerState.{FollowerState}
+use Rattle.p25_c.specs.{Calls.{Given, IsPiece}, Followers.{ended_left, follower_left, follower_told, fresh_follower, is_follower, item_held, item_raw, parts_held}, Items.{parts_of}, Places.{has_item}}
+use Rattle.p25_c.specs.{declared.followers.FollowerState.{FollowerState}, declared.items.ItemParts.{ItemParts}}
 
 -- what a follower writes of items that it takes by their numbers, which lie end to end over some bits, and at the end
 unfoldable pub followed_series : FollowerState → List Item → List Bool → List ℕ
@@ -34,3 +34,10 @@ ItemsAreCut =
     (recording : List ℕ) (given : Given) (item : Item) → IsPiece recording given
     → has_item given.begin (place_of item) (covered item) (length given.octets) ≡ true
     → item_raw (parts_of item) given.begin given.octets ≡ part (place_of item) (covered item) (octet_bits recording)
+
+-- the calls accept each follower that they set: one that begins, and, if they accepted it before, one after an item and after the end
+pub record FollowersAreKept : Type 0 where
+  pub begun : (place : ℕ) → is_follower (record fresh_follower { reached = place }) ≡ true
+  pub taken : (state : FollowerState) (item : ItemParts) (begin : ℕ) (octets : List ℕ) (room : ℕ) → is_follower state ≡ true
+      → is_follower (follower_left state item begin octets room) ≡ true
+  pub ended : (state : FollowerState) (room : ℕ) → is_follower state ≡ true → is_follower (ended_left state room) ≡ true

@@ -5,6 +5,8 @@ use Rattle.p25_stream.specs.Items.{items_by}
 use Rattle.p25_text.specs.ItemTexts.{item_text_of}
 use Rattle.p25_units.specs.{Items.{covered, place_of}, Units.{body_duid}, declared.item.Item.{Item}}
 use Rattle.p25_units.specs.declared.item.Item.TheVariants.{Whole, Broken, NoUnit, Gap, Cut}
+use Rattle.p25_units.specs.{UnitParts.{UnitParts}, declared.frame.Frame.{Frame}, declared.unit.Body.TheVariants.{Voice}}
+use Rattle.p25_voice_units.specs.declared.unit.VoiceUnit.TheVariants.{End}
 use Rattle.p25_c.specs.{Rooms.{text_left}, declared.items.ItemParts.{ItemParts}}
 
 -- a call may look for an item at a position, given that so many octets of the recording begin at bit `begin`, a multiple of 8: at one of
@@ -23,6 +25,13 @@ abbrev pub item_answer : Option (List Item) → ℤ
 item_answer None = negsuc 0
 item_answer (Some []) = pos 0
 item_answer (Some (item ∷ items)) = pos 1
+
+-- an item to be written over: a terminator at bit 0, without status symbols
+abbrev pub blank_item : Item
+blank_item =
+    let unit : UnitParts = record { nac = 0; body = Voice End } in
+    let frame : Frame = record { unit = unit; statuses = [] } in
+    Whole 0 frame 0
 
 -- the number of a kind of item
 abbrev pub kind_number : Item → ℕ

@@ -15,6 +15,7 @@ pub mod Values
 pub mod Fields
 pub mod VoiceCalls
 pub mod Packets
+pub mod PacketLaws
 pub mod ValueLaws
 pub mod BoundsLaws
 pub mod FollowerLaws

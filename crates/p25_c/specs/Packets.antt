@@ -7,7 +7,9 @@ use Rattle.p25_packet_blocks.specs.{Reading.{confirmed_by_parts, plain_by_parts}
 use Rattle.p25_packet_blocks.specs.{declared.block.Slot.TheVariants.{Good, Bad}, declared.head.PacketHead.{PacketHead}, declared.packet.Packet.{Packet}}
 use Rattle.p25_packet_blocks.specs.declared.packet.Packet.TheVariants.{Confirmed, Plain}
 use Rattle.p25_status.specs.{declared.fields.Field.{Field}, declared.fields.Field.TheVariants.{Format, Length, PacketCrc, PacketHeader, Sync}}
-use Rattle.p25_status.specs.declared.symbols.Status.{Status}
+use Rattle.p25_status.specs.{Sync.{has_sync}, declared.symbols.Status.{Status}}
+use Rattle.p25_bch_nid.specs.Duids.{duid_pdu}
+use Rattle.p25_unit_front.specs.Front.{identifier_of}
 use Rattle.p25_units.specs.{UnitParts.{UnitParts}, Units.{image_octets}, declared.unit.Body.TheVariants.{Packet as packet_body}}
 use Rattle.p25_c.specs.{Building.{no_unit}, Items.{is_inside}, Rooms.{written}, Values.{flag, is_set}, declared.packets.PacketParts.{PacketParts}}
 
@@ -83,9 +85,21 @@ abbrev pub packet_told : ℕ → Packet → PacketParts
 packet_told nac (Confirmed packet) = slots_told packet.slots (head_told nac packet.head)
 packet_told nac (Plain packet) = record (head_told nac packet.head) { length = length packet.octets; octets = written packet.octets (replicate 2032 0) }
 
--- the bits from a bit of octets on, of as many octets as a unit at any bit can lie in
+-- the bits from a bit of octets on, of so many octets at most
+abbrev pub first_bits : ℕ → ℕ → List ℕ → List Bool
+first_bits most bit octets = drop (bit % 8) (octet_bits (take most (drop (bit / 8) octets)))
+
+-- those of as many octets as a unit at any bit can lie in
 abbrev pub unit_bits : ℕ → List ℕ → List Bool
-unit_bits bit octets = drop (bit % 8) (octet_bits (take 3241 (drop (bit / 8) octets)))
+unit_bits bit octets = first_bits 3241 bit octets
+
+-- bits are as many as the shortest unit of a packet has, and have the sync and the network identifier (NID) of one
+abbrev pub is_packet_name : Option (ℕ × ℕ) → Bool
+is_packet_name None = false
+is_packet_name (Some name) = name.1 == duid_pdu
+
+abbrev pub begins_packet : List Bool → Bool
+begins_packet bits = nat_le 360 (length bits) && has_sync bits && is_packet_name (identifier_of bits)
 
 -- the packet of the unit that some bits begin with, if they are as many as the shortest has
 abbrev pub bits_packet : List Bool → Result (ℕ × Packet) Field

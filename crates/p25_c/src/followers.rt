@@ -89,7 +89,7 @@ pub extern "C" fn p25_follower_begin_at(follower: &mut FollowerState, place: u64
 /// An item is refused whose kind is none of the five; a whole or a broken data unit whose NAC is above 4095, whose DUID is above
 /// 15, or whose bits are fewer than 144 or no multiple of 72; and a nounit or a gap of more than 4,096 bits. A follower is
 /// refused that keeps 6,912 bits or more, or some without a data unit before them, whose NAC is above 4095 or whose DUID is above
-/// 15, or of which 8 bits or more wait. Since 1.1.
+/// 15, or of which 8 bits or more wait; these calls set no such follower. Since 1.1.
 #[unsafe(no_mangle)]
 pub extern "C" fn p25_follower_take(
     follower: &mut FollowerState,

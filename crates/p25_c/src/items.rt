@@ -4,7 +4,7 @@
 //! Items lie end to end and cover every bit.
 
 ghost use Rattle.std.specs.Prelude.{◌≡◌, ◌≤◌, [], ◌∷◌, false, true, pos, List, Some, length};
-ghost use Rattle.p25_c.specs.{Items.{is_inside, item_answer, item_left, item_text_left, items_asked, parts_of}, Rooms.{text_left}};
+ghost use Rattle.p25_c.specs.{Items.{blank_item, is_inside, item_answer, item_left, item_text_left, items_asked, parts_of}, Rooms.{text_left}};
 ghost use Rattle.p25_text.specs.ItemTexts.{item_text_of};
 ghost use Rattle.p25_units.specs.{Items.{IsSoundItem}, declared.item.Item.{Item as item_type}};
 
@@ -130,7 +130,9 @@ pub extern "C" fn p25_next_item(
 // An item to be written over. It is a voice unit and not `Item::empty()`: only what a voice unit has is written when another item takes its
 // position, and no memory of a packet is cleared.
 #[inline(always)]
-pub(crate) fn blank() -> Item {
+pub(crate) fn blank() -> Item
+    ensures { result ≡ blank_item }
+{
     let unit = Unit::new(0, Body::Voice(VoiceUnit::End));
     let statuses = Statuses::new();
     Item::Whole {

@@ -2,7 +2,7 @@
 //!
 //! A soft symbol is a level, a number from -128 to 127, for every two bits: 96 is 01, 32 is 00, -32 is 10 and -96 is 11.
 
-ghost use Rattle.std.specs.Prelude.{◌≡◌, ◌%◌, length};
+ghost use Rattle.std.specs.Prelude.{◌≡◌, ℕ, ◌%◌, ◌≤◌, length, pos};
 ghost use Rattle.p25_c.specs.{Levels.{octets_softened, softened_by}, Rooms.{IsWriting}};
 ghost use Rattle.p25_soft.specs.Levels.{hard_bits, hard_dibit, nominal_level};
 ghost use Rattle.p25_units.specs.Needs.{need_of};
@@ -44,7 +44,8 @@ pub extern "C" fn p25_dibit_level(dibit: u8) -> i8
 /// Since 1.1.
 #[unsafe(no_mangle)]
 pub extern "C" fn p25_soften(levels: &[i8], into: &mut [u8]) -> i32
-    ensures { IsWriting (octets_softened levels.now) into.old into.new result }
+    ensures written { IsWriting (octets_softened levels.now) into.old into.new result }
+    ensures count { (count : ℕ) → result ≡ pos count → count ≤ 3240 }
 {
     if levels.len() > LEVELS_MOST {
         return OUTSIDE;

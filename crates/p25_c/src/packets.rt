@@ -1,16 +1,20 @@
 //! Packets
 
 ghost use Rattle.std.specs.{Prelude.{◌≡◌, ◌*◌, ◌≤◌, ◌==◌, count_by, length, map}, List.{flat_map}};
-ghost use Rattle.p25_c.specs.Packets.{head_told, is_bad, no_packet, packet_answer, packet_asked, packet_bad, packet_fault, packet_left, packet_told, slot_good, slot_octets, slot_serial, slots_told, unit_bits};
+ghost use Rattle.p25_c.specs.Packets.{begins_packet, first_bits, head_told, is_bad, no_packet, packet_answer, packet_asked, packet_bad, packet_fault, packet_left, packet_told, slot_good, slot_octets, slot_serial, slots_told};
 
 use crate::answers::{NO_UNIT, OUTSIDE, PACKET_CRC, PACKET_CUT, PACKET_FORMAT, PACKET_HEADER};
 use crate::items::{NEEDED, is_inside};
 use p25_bits::BitBuf;
+use p25_bch_nid::PDU;
 use p25_packet_blocks::{Packet, PacketHead, Slot, read_packet_unit};
-use p25_status::Field;
+use p25_status::{Field, is_sync};
+use p25_unit_front::read_front;
 
-// How many bits the shortest unit of a packet has.
+// How many bits the shortest unit of a packet has, and in how many octets it lies at most.
 const SHORTEST: usize = 360;
+
+const SHORTEST_OCTETS: usize = 46;
 
 // The formats of packets (PDU).
 
@@ -84,11 +88,14 @@ pub extern "C" fn p25_packet_read(
     if !is_inside(begin, from, octets.len()) {
         return OUTSIDE;
     }
+    let bit = (from - begin) as usize;
     let mut bits = BitBuf::new();
-    take_bits(octets, (from - begin) as usize, &mut bits);
-    if bits.len() < SHORTEST {
+    // The first bits decide that there is no packet, so that no others are copied of any other item.
+    take_bits(octets, bit, SHORTEST_OCTETS, &mut bits);
+    if !begins_packet(&bits) {
         return NO_UNIT;
     }
+    take_bits(octets, bit, NEEDED, &mut bits);
     match read_packet_unit(&bits) {
         Ok((nac, read)) => {
             tell_packet(nac, &read, packet);
@@ -98,16 +105,30 @@ pub extern "C" fn p25_packet_read(
     }
 }
 
-// Sets `bits` to those from a bit of octets on, of as many octets as a unit can lie in.
-fn take_bits(octets: &[u8], bit: usize, bits: &mut BitBuf)
-    ensures { bits.new ≡ unit_bits bit octets.now }
+// Sets `bits` to those from a bit of octets on, of so many octets at most.
+fn take_bits(octets: &[u8], bit: usize, most: usize, bits: &mut BitBuf)
+    requires { most ≤ 3241 }
+    ensures { bits.new ≡ first_bits most bit octets.now }
 {
     let first = (bit / 8).min(octets.len());
     let there = &octets[first..];
-    let count = NEEDED.min(there.len());
+    let count = most.min(there.len());
     bits.clear();
     bits.put_numbers(&there[..count], 8);
     bits.drop_front((bit % 8).min(bits.len()));
+}
+
+// Whether bits are as many as the shortest unit of a packet has, and have the sync and the network identifier (NID) of one.
+fn begins_packet(bits: &BitBuf) -> bool
+    ensures { result ≡ begins_packet bits.now }
+{
+    if bits.len() < SHORTEST || !is_sync(bits, 0) {
+        return false;
+    }
+    match read_front(bits, 0) {
+        Some(front) => front.nid.duid == PDU,
+        None => false,
+    }
 }
 
 // The number of the field for which there is no packet.

@@ -13,6 +13,6 @@ returns c =
     = take_all (length octets - first) (drop first octets) (omega (arith, length-drop first octets)) ∙ ap (λ (n : ℕ). drop n octets) c.min-first.ensures in
     let front = take c.min-count.result there in
     let put = c.put_numbers.ensures.list ∙ ap (λ (xs : List Bool). xs ++ number_bits 8 front) c.clear.ensures ∙ number_bits-octets front in
-    bits-taken c.args.bit octets there c.put_numbers.new.self c.drop_front.new.self is_there
+    bits-taken c.args.most c.args.bit octets there c.put_numbers.new.self c.drop_front.new.self is_there
     (put ∙ ap (λ (n : ℕ). octet_bits (take n there)) c.min-count.ensures)
     (c.drop_front.ensures.list ∙ ap (λ (n : ℕ). drop n c.put_numbers.new.self) (c.min.ensures ∙ ap (min (c.args.bit % 8)) c.len.ensures.value))
