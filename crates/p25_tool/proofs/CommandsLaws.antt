@@ -1,17 +1,18 @@
 -- The output of the work of each command that reads a recording, from the first octet on, is its output by definition.
-use Rattle.std.proofs.Common.{◌≡◌, ℕ, ◌+◌, Bool, true, false, cond, List, [], ◌++◌, Some, refl, ap, ap₂, ◌∙◌, arith}
+use Rattle.std.proofs.Common.{◌≡◌, ℕ, ◌+◌, Bool, true, false, cond, List, [], ◌++◌, Some, map, refl, ap, ap₂, ◌∙◌, arith}
 use Rattle.std.specs.List.{flat_map}
 use Rattle.p25_bits.specs.Bits.{octet_bits}
 use Rattle.p25_units.specs.Units.{whole_octets}
 use Rattle.p25_stream.specs.Items.{items_by}
 use Rattle.p25_filter.specs.declared.ending.Ending.TheVariants.{Done}
 use Rattle.p25_filter.proofs.SameLaws.{same-future}
-use Rattle.p25_tool.specs.declared.command.Command.TheVariants.{Show as ShowIt, Check as CheckIt, Follow as FollowIt, Calls as CallsIt, Soft as SoftIt}
+use Rattle.p25_tool.specs.declared.command.Command.TheVariants.{Show as ShowIt, Check as CheckIt, Follow as FollowIt, Calls as CallsIt, Soft as SoftIt, Decide as DecideIt}
 use Rattle.p25_tool.specs.Outputs.{command_future, ending_by, items_future}
 use Rattle.p25_recording_filters.specs.{declared.reports.show.Show.{Show}, declared.reports.check.Check.{Check}, declared.reports.changed.Change.{Change}}
 use Rattle.p25_recording_filters.specs.Commands.{CallsParts, ChangedParts, FollowedParts, calls_reporting, change_of, changed_reporting, check_reporting, followed_reporting, show_reporting}
-use Rattle.p25_recording_filters.specs.{ItemOutputs.{changed_bits, check_ending, check_line, faults_in, faulty, units_in, soft_output}, Softs.{fresh_soft, soft_future}}
-use Rattle.p25_recording_filters.specs.Recordings.{fresh, recording_future}
+use Rattle.p25_recording_filters.specs.{ItemOutputs.{changed_bits, check_ending, check_line, faults_in, faulty, units_in, decide_output, soft_output}, Decides.{decide_future, fresh_decide, placed}, Softs.{fresh_soft, soft_future}}
+use Rattle.p25_recording_filters.specs.{Recordings.{fresh, recording_future}, SoftLevels.{filled, octet_level}}
+use Rattle.p25_recording_filters.proofs.DecideRecordingsLaws.{decide-passes}
 use Rattle.p25_calls.specs.Taking.{fresh_caller}
 use Rattle.p25_follow.specs.Following.{fresh_follow}
 use Rattle.p25_recording_filters.proofs.{CallReportsLaws.{reported-calls}, ReportsLaws.{behind-check, reported-changed, reported-check, reported-followed, reported-show}}
@@ -59,3 +60,13 @@ calls-alike report empty = same-future (λ is octets. reported-calls is report (
 pub soft-alike : soft_future fresh_soft ≡ command_future SoftIt
 unfolding soft_future soft_output
 soft-alike = refl
+
+-- all levels are decided, and of those that may not be all what is settled
+decide-written : (ended : Bool) (octets : List ℕ) → (decide_future fresh_decide).writes ended octets ≡ decide_output ended octets
+unfolding decide_future decide_output placed
+decide-written true octets = ap whole_octets (decide-passes (filled (map octet_level octets)))
+decide-written false octets = refl
+
+pub decide-alike : decide_future fresh_decide ≡ command_future DecideIt
+unfolding decide_future
+decide-alike = same-future decide-written (λ is octets. refl) (λ is octets. refl)

@@ -34,9 +34,10 @@ module _ (nac : ℕ) (status : Status) where
       (either (bytes_eq word (codes "follow")) _ _ ((λ is. absurd (cc is)), (λ is. absurd (cc is)))
       (either (bytes_eq word (codes "calls")) _ _ ((λ is. absurd (cc is)), (λ is. absurd (cc is)))
       (either (bytes_eq word (codes "soft")) _ _ ((λ is. absurd (cc is)), (λ is. absurd (cc is)))
+      (either (bytes_eq word (codes "decide")) _ _ ((λ is. absurd (cc is)), (λ is. absurd (cc is)))
       (either (bytes_eq word (codes "stations")) _ _ ((λ is. absurd (cc is)), (λ is. absurd (cc is)))
       (either (bytes_eq word (codes "fragments")) _ _ ((λ is. absurd (cc is)), (λ is. absurd (cc is)))
-      (either (bytes_eq word (codes "duplex")) _ _ ((λ is. absurd (cc is)), (λ is. absurd (cc is))) ((λ is. absurd (cc is)), (λ is. absurd (cc is)))))))))))
+      (either (bytes_eq word (codes "duplex")) _ _ ((λ is. absurd (cc is)), (λ is. absurd (cc is))) ((λ is. absurd (cc is)), (λ is. absurd (cc is))))))))))))
 
   build-fit : (symbol : Option Status) → IsFit (option_map Build symbol)
   build-fit None = ((λ is. absurd (cc is)), (λ is. absurd (cc is)))

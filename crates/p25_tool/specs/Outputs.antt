@@ -14,9 +14,9 @@ use Rattle.p25_script.specs.{LongScript.{long_event_of}, LongTexts.{long_closing
 use Rattle.p25_duplex.specs.{declared.side.Side.TheVariants.{A, B}, declared.event.DuplexStep.{DuplexStep}, DuplexSteps.{DuplexState, first_duplex}}
 use Rattle.p25_duplex.specs.{DuplexRuns.{duplex_run, duplex_steps}, ClosingTexts.{duplex_closing_of}}
 use Rattle.p25_tool.specs.declared.command.Command.{Command}
-use Rattle.p25_tool.specs.declared.command.Command.TheVariants.{Show, Check, Repair, Bridge, Relay, Follow, Build, Stations, Calls, Duplex, Fragments, Soft, Sample}
+use Rattle.p25_tool.specs.declared.command.Command.TheVariants.{Show, Check, Repair, Bridge, Relay, Follow, Build, Stations, Calls, Duplex, Fragments, Soft, Decide, Sample}
 use Rattle.p25_fragments.specs.{LongState.{LongState, first_long}, LongRuns.{long_run, long_steps_of}}
-use Rattle.p25_recording_filters.specs.ItemOutputs.{shown, faulty, units_in, faults_in, check_line, check_ending, changed_bits, call_line, calls_line, soft_output}
+use Rattle.p25_recording_filters.specs.ItemOutputs.{shown, faulty, units_in, faults_in, check_line, check_ending, changed_bits, call_line, calls_line, soft_output, decide_output}
 
 -- the text of a step, and the text that closes a run, each with the end of its line
 abbrev pub step_line : Step → List ℕ
@@ -66,6 +66,8 @@ command_future Calls =
     let calls = calls_by ended items in flat_map call_line calls ++ (if ended then calls_line (length calls) else [])) (λ items. Done)
 command_future Soft =
     record { writes = soft_output; ends = λ ended octets. if ended then Some Done else None; pauses = λ ended octets. [] }
+command_future Decide =
+    record { writes = decide_output; ends = λ ended octets. if ended then Some Done else None; pauses = λ ended octets. [] }
 command_future (Build status) = lines_future read_line_of (λ units. units) (image_octets status) (λ units. []) false
 command_future Stations =
     lines_future event_of (steps_of first_world) step_line (λ events. closing_line (world_run first_world events)) true

@@ -5,7 +5,7 @@ use Rattle.p25_status.specs.{Status.{status_modulo}, declared.symbols.Status.{St
 use Rattle.p25_text.specs.Values.{nac_in}
 use Rattle.p25_line.specs.Values.{number_below}
 use Rattle.p25_tool.specs.declared.command.Command.{Command}
-use Rattle.p25_tool.specs.declared.command.Command.TheVariants.{Show, Check, Repair, Bridge, Relay, Follow, Build, Stations, Calls, Duplex, Fragments, Soft, Sample}
+use Rattle.p25_tool.specs.declared.command.Command.TheVariants.{Show, Check, Repair, Bridge, Relay, Follow, Build, Stations, Calls, Duplex, Fragments, Soft, Decide, Sample}
 
 -- the words after one more: its first 16 octets after the others, or nothing if four are held
 abbrev pub added : List (List ℕ) → List ℕ → List (List ℕ)
@@ -24,6 +24,7 @@ one_word_commands =
     ∷ (codes "follow", Follow)
     ∷ (codes "calls", Calls)
     ∷ (codes "soft", Soft)
+    ∷ (codes "decide", Decide)
     ∷ (codes "stations", Stations)
     ∷ (codes "fragments", Fragments)
     ∷ (codes "duplex", Duplex)
@@ -89,4 +90,5 @@ IsSoundCommand Calls = Unit {0}
 IsSoundCommand Duplex = Unit {0}
 IsSoundCommand Fragments = Unit {0}
 IsSoundCommand Soft = Unit {0}
+IsSoundCommand Decide = Unit {0}
 IsSoundCommand (Sample count) = (1 ≤ count) × (count ≤ 10000)

@@ -33,6 +33,9 @@ pub enum Command {
     /// The recording of these levels, one octet each, with the blocks of broken packets (PDU) decoded again from their
     /// levels.
     Soft,
+    /// The recording of these levels, one octet each, as `Follow` writes it, with the coded fields of voice data units, and
+    /// the blocks of broken packets (PDU), decoded again from their levels.
+    Decide,
     /// The decoding of the first sample data units, one line. There are 1 to 10,000 of them.
     Sample { count: u64 },
 }

@@ -5,7 +5,7 @@ ghost use Rattle.p25_io.specs.{Events.{Event}, Faults.{Rose}, Tapes.{calls_on, i
 ghost use Rattle.p25_filter.specs.{Traces.{IsRun}, LineFilters.{first_line, line_future}};
 ghost use Rattle.p25_tool.specs.{Outputs.{command_future}, CallClauses.{CallSays}, CallRuns.{IsCallRun}, Words.{command_of}};
 ghost use Rattle.p25_tool.specs.declared.command.Command.TheVariants.{Duplex, Fragments, Stations};
-ghost use Rattle.p25_recording_filters.specs.{Recordings.{fresh, recording_future}, Softs.{fresh_soft, soft_future}};
+ghost use Rattle.p25_recording_filters.specs.{Decides.{decide_future, fresh_decide}, Recordings.{fresh, recording_future}, Softs.{fresh_soft, soft_future}};
 
 use super::build::Build;
 use super::command::Command;
@@ -18,7 +18,7 @@ use p25_filter::{FilterEnd, LineFilter, LineMachine};
 use p25_fragments::LongWorld;
 use p25_io::{Pair, Port, Sink, Source, Tape};
 use p25_recording_filters::{
-    Calls, Change, Changed, Check, Followed, Recording, Report, Show, Soft,
+    Calls, Change, Changed, Check, Decide, Followed, Recording, Report, Show, Soft,
 };
 use p25_stations::World;
 use std::alloc::Global;
@@ -92,6 +92,7 @@ pub fn run_on<P: Port>(alloc: Global, words: &Words, port: &mut P) -> Outcome
         Command::Duplex => run_duplex(alloc, port),
         Command::Fragments => run_fragments(alloc, port),
         Command::Soft => run_soft(port),
+        Command::Decide => run_decide(port),
         Command::Sample { count } => run_sample(count, port),
     };
     outcome_of(end)
@@ -161,4 +162,13 @@ fn run_soft<P: Port>(port: &mut P) -> FilterEnd
 {
     let mut soft = Soft::new();
     p25_filter::run_on(&mut soft, port)
+}
+
+// Runs `decide`.
+#[inline(never)]
+fn run_decide<P: Port>(port: &mut P) -> FilterEnd
+    ensures { (events : List Event) × P.moves port.old events port.new × IsRun (decide_future fresh_decide) events result }
+{
+    let mut decide = Decide::new();
+    p25_filter::run_on(&mut decide, port)
 }

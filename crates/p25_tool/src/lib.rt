@@ -14,7 +14,7 @@
 //! to end and cover every bit. The output of a command for the octets of its input is `output_by`:
 //!
 //! - `show` and `check` write the texts of items, and `calls` the texts of calls.
-//! - `repair`, `bridge`, `relay` and `follow` write the bits of items, and `soft` the bits of levels.
+//! - `repair`, `bridge`, `relay` and `follow` write the bits of items, and `soft` and `decide` the bits of levels.
 //! - `build` writes the images of the data units that lines describe.
 //! - `stations`, `fragments` and `duplex` write the steps of the events of lines.
 //! - `sample` reads no octets and writes a line about sample data units.

@@ -109,6 +109,7 @@ const ROWS: [Row; 12] = [
             a sent=1 delivered=1 acknowledged=0\nb sent=0 delivered=0 acknowledged=0\nfalse=0\n",
     ),
     (&[b"soft"], &[96; 8], b"\x55\x55"),
+    (&[b"decide"], &[96; 8], b"\x55\x55"),
 ];
 
 #[test]

@@ -92,6 +92,8 @@ fn one_word(word: &[u8]) -> Option<Command>
         Some(Command::Calls)
     } else if word == b"soft".as_slice() {
         Some(Command::Soft)
+    } else if word == b"decide".as_slice() {
+        Some(Command::Decide)
     } else if word == b"stations".as_slice() {
         Some(Command::Stations)
     } else if word == b"fragments".as_slice() {

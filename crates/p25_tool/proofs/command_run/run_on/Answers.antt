@@ -1,11 +1,11 @@
 use Rattle.std.proofs.Common.{◌≡◌, ℕ, List, refl, sym, subst, ◌∙◌}
 use Rattle.p25_tool.specs.declared.command.Command.{Command}
-use Rattle.p25_tool.specs.{declared.command.Command.TheVariants.{Show, Check, Repair, Bridge, Relay, Follow, Build, Stations, Calls, Duplex, Fragments, Soft, Sample}, Outputs.{command_future}}
+use Rattle.p25_tool.specs.{declared.command.Command.TheVariants.{Show, Check, Repair, Bridge, Relay, Follow, Build, Stations, Calls, Duplex, Fragments, Soft, Decide, Sample}, Outputs.{command_future}}
 use Rattle.p25_tool.specs.CallRuns.{AreWrites, IsCallRun}
 use Rattle.p25_recording_filters.specs.declared.reports.changed.Change.TheVariants.{Repaired, Bridged, Relayed}
 use Rattle.p25_filter.specs.Traces.{IsRun}
-use Rattle.p25_tool.proofs.{CommandsLaws.{calls-alike, changed-alike, check-alike, follow-alike, show-alike, soft-alike}, ScriptRunsLaws.{build-alike}, CallRunsLaws.{alike-run}}
-use Rattle.p25_tool.proofs.command_run.run_on.Goals.{in-Show, in-Check, in-Repair, in-Bridge, in-Relay, in-Follow, in-Build, in-Stations, in-Calls, in-Duplex, in-Fragments, in-Soft, in-Sample}
+use Rattle.p25_tool.proofs.{CommandsLaws.{calls-alike, changed-alike, check-alike, decide-alike, follow-alike, show-alike, soft-alike}, ScriptRunsLaws.{build-alike}, CallRunsLaws.{alike-run}}
+use Rattle.p25_tool.proofs.command_run.run_on.Goals.{in-Show, in-Check, in-Repair, in-Bridge, in-Relay, in-Follow, in-Build, in-Stations, in-Calls, in-Duplex, in-Fragments, in-Soft, in-Decide, in-Sample}
 use Rattle.p25_io.specs.Events.{Event}
 use Rattle.p25_tool.proofs.command_run.run_on.Goals as goal
 
@@ -32,6 +32,7 @@ returns-clause-called g c =
       | in-Duplex w ↦ rw (w.port-is, w.end-is) (alike-run moves _ _ _ Duplex _ _ w.in-Duplex.is refl (λ count is. cc) w.run_duplex-end.ensures)
       | in-Fragments w ↦ rw (w.port-is, w.end-is) (alike-run moves _ _ _ Fragments _ _ w.in-Fragments.is refl (λ count is. cc) w.run_fragments-end.ensures)
       | in-Soft w ↦ rw (w.port-is, w.end-is) (alike-run moves _ _ _ Soft _ _ w.in-Soft.is soft-alike (λ count is. cc) w.run_soft-end.ensures)
+      | in-Decide w ↦ rw (w.port-is, w.end-is) (alike-run moves _ _ _ Decide _ _ w.in-Decide.is decide-alike (λ count is. cc) w.run_decide-end.ensures)
       | in-Sample w ↦
           let wrote = w.run_sample-end.ensures in
           rw (w.port-is, w.end-is) (
