@@ -203,6 +203,8 @@ def crowd(lot):
 
 def worn(lot, bits, rate):
     """Returns the bits with bit errors at a rate, and sometimes a fade, a slip or a missing end."""
+    if not bits:
+        return bits
     bits = flipped(bits, [place for place in range(len(bits)) if lot.random() < rate]) if rate else bits
     chance = lot.random()
     if chance < 0.08:
