@@ -6,7 +6,8 @@ use Rattle.p25_stream.specs.{Items.{items_by}, ItemLaws.{EnoughDecide, GaveItems
 use Rattle.p25_stream.proofs.ItemsLaws.{items_by-nil}
 use Rattle.p25_follow.specs.Following.{Follow, fresh_follow}
 use Rattle.p25_soft.{specs.Levels.{hard_bits}, proofs.HardBitsLaws.{hard_bits-none}}
-use Rattle.p25_decide.specs.{DecidedFollowing.{changed_by}, DecidedRecordings.{item_decided}, DecidedStretches.{chain_over}, DecidedTaking.{AreFrom}}
+use Rattle.p25_decide.specs.{DecidedFollowing.{changed_by}, DecidedRecordings.{decide_of, item_decided}, DecidedStretches.{chain_over}, DecidedTaking.{AreFrom}}
+use Rattle.p25_decide.proofs.{PassLaws.{changed-all}, RecordingsLaws.{decide-stretches}}
 use Rattle.p25_filter.specs.{declared.ending.Ending.TheVariants.{Done}, Futures.{IsClosed, IsIdle, NextPiece, Progress}}
 use Rattle.p25_filter.proofs.LinesLaws.{Contains-none}
 use Rattle.p25_recording_filters.specs.{declared.recording.Phase.{Phase}, declared.recording.Phase.TheVariants.{Reading, Ended, Closed}}
@@ -247,3 +248,10 @@ pub size-item : (before now : DecideParts) (out : List ℕ) → IsDeciding befor
     → first_held now.scan.place now.follow + length now.levels ≡ first_held before.scan.place before.follow + length before.levels
 size-item before now out deciding_so put =
     rw (put.left, put.follows) (size-next before.scan now.scan before.follow before.levels put.item put.raw deciding_so put.gave)
+
+pub idle-fresh : IsIdle false (decide_future fresh_decide)
+idle-fresh = step-idle fresh_decide refl (λ is. cc) (deciding-fresh fresh_decide.scan fresh_decide.follow fresh_decide.levels refl refl refl) (omega arith) fresh-none
+
+-- the work on all levels, from the first one on, writes what the definition of a decided recording does
+pub decide-passes : (levels : List ℤ) → changed_by (item_decided levels) true 0 fresh_follow (items_by true 0 (hard_bits levels)) (hard_bits levels) ≡ decide_of levels
+decide-passes levels = changed-all (item_decided levels) (hard_bits levels) ∙ sym (decide-stretches levels)

@@ -1,12 +1,14 @@
 -- The output for the items of a recording.
-use Rattle.std.specs.Prelude.{ℕ, ◌+◌, Bool, if◌then◌else◌, ◌==◌, List, [], ◌∷◌, ◌++◌, map, codes, decimal}
+use Rattle.std.specs.Prelude.{ℕ, ◌+◌, Bool, true, false, if◌then◌else◌, ◌==◌, List, [], ◌∷◌, ◌++◌, map, codes, decimal}
 use Rattle.p25_units.specs.{Units.{whole_octets}, declared.item.Item.{Item}}
 use Rattle.p25_stream.specs.{Items.{items_by}, Repeats.{is_whole_item}, Written.{written}}
+use Rattle.p25_follow.specs.Following.{fresh_follow}
 use Rattle.p25_soft.specs.Levels.{hard_bits}
+use Rattle.p25_decide.specs.{DecidedFollowing.{changed_by}, DecidedRecordings.{decide_of, item_decided}}
 use Rattle.p25_text.specs.ItemTexts.{item_text_of}
 use Rattle.p25_calls.specs.{CallTexts.{call_text_of}, declared.call.Call.{Call}}
 use Rattle.p25_filter.specs.{declared.ending.Ending.{Ending}, declared.ending.Ending.TheVariants.{Done, Found}}
-use Rattle.p25_recording_filters.specs.SoftLevels.{item_softened, octet_level, scanned}
+use Rattle.p25_recording_filters.specs.SoftLevels.{filled, grouped, item_softened, octet_level, scanned}
 
 -- the text of an item and the end of its line
 abbrev pub shown : Item → List ℕ
@@ -51,3 +53,11 @@ unfoldable pub soft_output : Bool → List ℕ → List ℕ
 soft_output ended octets =
     let levels = scanned ended (map octet_level octets) in
     whole_octets (changed_bits (item_softened 0 levels) (items_by ended 0 (hard_bits levels)) (hard_bits levels))
+
+-- the output of `decide` for the octets of a soft recording: if they are all, the bits of its levels, followed, with the coded fields of data units,
+-- and failing blocks of packets (PDU), decoded from the levels. If more may come, those of it that a follower has settled
+unfoldable pub decide_output : Bool → List ℕ → List ℕ
+decide_output true octets = whole_octets (decide_of (filled (map octet_level octets)))
+decide_output false octets =
+    let levels = grouped (map octet_level octets) in
+    whole_octets (changed_by (item_decided levels) false 0 fresh_follow (items_by false 0 (hard_bits levels)) (hard_bits levels))

@@ -5,6 +5,9 @@ ghost use Rattle.std.specs.Prelude.{◌≡◌, ◌≢◌, [], length};
 ghost use Rattle.p25_stream.specs.Scan.{given};
 ghost use Rattle.p25_recording_filters.specs.{declared.recording.Phase.TheVariants.{Ended}, Decides.{PutDecided, PutLast, fresh_decide}};
 
+#[cfg(test)]
+mod tests;
+
 use crate::hearing::{fill, hear_some};
 use crate::held_levels::HeldLevels;
 use crate::recording::Phase;
